@@ -48,8 +48,8 @@ default words options only = rw (only.nanoseconds, only.limit, only.seal, only.s
 
 -- what options that only name files ask for is their report
 of_options : (words : List Bytes) (options : Options) → list_all is_plain words ≡ true → HasOnlyFiles words options → (request : Request) → IsOf options request → IsReport words request
-of_options words options plain only (Run (Collect settings Report) files) is =
-    (is.0.3.1 ∙ default words options only, is.1.0 ∙ only.names, is.1.1 ∙ only.files_from)
+of_options words options plain only (Run (Collect settings (Report warns)) files) is =
+    (is.0.3.1 ∙ default words options only, is.0.3.2.1 ∙ rw (only.nanoseconds, only.files_from) refl, is.1.0 ∙ only.names, is.1.1 ∙ only.files_from)
 of_options words options plain only (Run (Collect settings Refusals) files) is = true≢false (sym is.0.3.2 ∙ only.refused)
 of_options words options plain only (Run (Collect settings (Folded labels)) files) is = true≢false (sym is.0.3.2.0 ∙ only.folded)
 of_options words options plain only (Run (Collect settings (Page view)) files) is = true≢false (sym is.0.3.2.0 ∙ only.page)

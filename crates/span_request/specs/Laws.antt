@@ -16,9 +16,9 @@ AddedTablesMayHaveThem = (options : Options) (of own : Of) (columns : List Colum
 abbrev pub default_settings : Settings
 default_settings = record { unit = Microseconds; limit = default_limit; seal = false; strict = false }
 
--- the report of the files of these names, collected as one run with the default settings
+-- the report of the files of these names, collected as one run with the default settings, without warnings
 abbrev pub IsReport : List Bytes → Request → Type 0
-IsReport names (Run (Collect settings Report) files) = (settings ≡ default_settings) × (files.given.items ≡ names) × (files.list ≡ None)
+IsReport names (Run (Collect settings (Report warns)) files) = (settings ≡ default_settings) × (warns ≡ false) × (files.given.items ≡ names) × (files.list ≡ None)
 IsReport names request = ⊥
 
 -- words that begin with no hyphen, fewer than 2^64, ask for the report of the files that they name

@@ -1,5 +1,5 @@
 -- The task that the options ask for, by these columns.
-use Rattle.std.specs.{Prelude.{◌≡◌, ◌&&◌, ◌||◌, if◌then◌else◌, ℕ, true, false, List, [], ◌∷◌, Option, Some, None, filter_map, unwrap_or}, Option.option_map_or}
+use Rattle.std.specs.{Prelude.{◌≡◌, ◌&&◌, ◌||◌, if◌then◌else◌, ℕ, Bool, true, false, List, [], ◌∷◌, Option, Some, None, filter_map, is_some, unwrap_or}, Option.option_map_or}
 use Rattle.span_request.specs.{Argument, Column, Microseconds, Name, Named, Nanoseconds, Of, Options, Settings, SpanColumn, names_of, Numbers.by_of, Rules.takes_apart, Texts.{are_given, most_rows, prints_table}}
 use Rattle.span_request.specs.declared.tasks.{Items.{Items, TheVariants.{Apart, Printed, Together}}, TableText.{TableText, TheVariants.{Changes, Repetitions, Table}}, Task.{Task, TheVariants.{Collect, Pages, Tabulate}}}
 use Rattle.span_request.specs.declared.views.{ComparisonForm.ComparisonForm, PageView.PageView, RepeatsForm.RepeatsForm, TableForm.{TableForm, TheVariants.{Json, Ranking}}, TableOptions.TableOptions, View.{View, TheVariants.{Folded, Page, Refusals, Report}}}
@@ -41,9 +41,13 @@ labels_of columns = or_name (filter_map label_of columns)
 abbrev pub IsPageView : Options → Of → List Column → PageView → Type 0
 IsPageView options of columns view = IsOptions options of columns view.options × (view.labels.items ≡ labels_of columns)
 
+-- warnings follow a report where an option other than a limit, seals and strict names is given, of which a report may have these two
+abbrev pub warns_of : Options → Bool
+warns_of options = options.nanoseconds || is_some options.files_from
+
 -- the text of one run, beside its table
 abbrev pub IsView : Options → Of → List Column → View → Type 0
-IsView options of columns Report = (options.refused || options.folded || options.page) ≡ false
+IsView options of columns (Report warns) = ((options.refused || options.folded || options.page) ≡ false) × (warns ≡ warns_of options)
 IsView options of columns Refusals = options.refused ≡ true
 IsView options of columns (Folded labels) = (options.folded ≡ true) × (labels.items ≡ labels_of columns)
 IsView options of columns (Page view) = (options.page ≡ true) × IsPageView options of columns view

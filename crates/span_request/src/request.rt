@@ -1,6 +1,6 @@
 //! What the words of a command line ask for.
 ghost use Rattle.std.specs.Prelude.{◌≡◌, IfOk, MatchResult};
-ghost use Rattle.span_request.specs.{Request.{AreUnsound, Asks, AsksFor, IsOf}, Tasks.{IsOptions, IsPageView, IsTask, IsText, IsView, comparison_form, items_of, repeats_form, settings_of, table_form}};
+ghost use Rattle.span_request.specs.{Request.{AreUnsound, Asks, AsksFor, IsOf}, Tasks.{IsOptions, IsPageView, IsTask, IsText, IsView, comparison_form, items_of, repeats_form, settings_of, table_form, warns_of}};
 
 use crate::columns::{columns_asked, labels_of, rule_of};
 use crate::numbers::{OF_RULE, by_of, of_of};
@@ -145,7 +145,15 @@ fn view_of(
     if options.page {
         return Ok(View::Page(page_view(alloc, options, of, columns)?));
     }
-    Ok(View::Report)
+    let warns = warns_of(options);
+    Ok(View::Report { warns })
+}
+
+// Whether warnings follow a report: an option other than a limit, seals and strict names is given.
+fn warns_of(options: &Options) -> bool
+    ensures { result ≡ warns_of options.now }
+{
+    options.nanoseconds || options.files_from.is_some()
 }
 
 fn page_view(

@@ -9,7 +9,8 @@ use span_table_text::Shown;
 /// What is printed of one run, beside its table.
 #[derive(Drop)]
 pub enum View {
-    Report,
+    /// The report; files of which events were refused may be warned of behind it.
+    Report { warns: bool },
     /// Which items of each file were refused.
     Refusals,
     /// The folded stacks of each thread, whose frames are labels by these columns.

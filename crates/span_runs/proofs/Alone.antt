@@ -1,7 +1,7 @@
 -- What was collected of one file alone.
 use Rattle.std.proofs.{Common.{◌≡◌, ◌<◌, List, [], ◌∷◌, ◌++◌, length, ap, append-nil, ◌∙◌}, lemmas.Slice.Zip.AllZip-long}
-use Rattle.span_collect.proofs.{InTurn.Accounted.end_lines-in_turn, OneFile.AreSeparate-one}
-use Rattle.span_runs.specs.{Bytes, doc, Entry, FileEnd, Input, Asked, Sealing, Settings, EndsAs, end_lines, status_of, SealedAccount, Run, AreAlikeRuns, Apart.{AddsFile, IsAccounted, IsFileRun, refusal_line, run_alone, run_of}, Gathering.TakesAlike, Runs.run_of_files, Source.SourceBytes, declared.{file_run.FileRun.FileRun, gathered.Gathered.Gathered, source.Name.Name}}
+use Rattle.span_collect.proofs.{InTurn.Accounted.{end_lines-in_turn, warnings_of-in_turn}, OneFile.AreSeparate-one}
+use Rattle.span_runs.specs.{Bytes, doc, Entry, FileEnd, Input, Asked, Sealing, Settings, EndsAs, Warning, end_lines, status_of, warnings_of, SealedAccount, Run, AreAlikeRuns, Apart.{AddsFile, IsAccounted, IsFileRun, run_alone, run_of}, Gathering.TakesAlike, Runs.run_of_files, Said.{SaysOfRun, refusal_line, warnings_alone}, Source.SourceBytes, declared.{file_run.FileRun.FileRun, gathered.Gathered.Gathered, source.Name.Name}}
 use Rattle.span_runs.proofs.InTurn.{AreAlikeRuns-in_turn}
 
 -- one file has one end
@@ -27,20 +27,27 @@ module _ (file : Input) (settings : Settings) (ends : List FileEnd) (asked : Ask
     alike = AreAlikeRuns-alone;
   }
 
-  -- and its fault lines are its refusal line
+  -- its fault lines are its refusal line
   pub end_lines-alone : end_lines (file ∷ []) ends ≡ refusal_line settings.unit file
   end_lines-alone = end_lines-in_turn (file ∷ []) [] settings ends asked sealing journal account (AreSeparate-one settings.unit file) below ∙ append-nil (refusal_line settings.unit file)
 
--- what takes the run of a file, and its lines, has the file
+  -- and its warnings are those of its items in their order
+  pub warnings_of-alone : warnings_of (file ∷ []) ends journal ≡ warnings_alone settings file
+  warnings_of-alone = warnings_of-in_turn (file ∷ []) [] settings ends asked sealing journal account (AreSeparate-one settings.unit file) below
+
+-- what takes the run of a file, and what is said of it, has the file
 abbrev pub AddsFile-run : {T : Type 0} (source : SourceBytes) (name : Name) (settings : Settings) (ComeTo : List Run → T → Type 0) (run : FileRun) (old new : Gathered T) → IsFileRun source name settings run →
     TakesAlike ComeTo old.runs (run_of run) new.runs →
-    new.lines.items ≡ old.lines.items ++ end_lines (run.file ∷ []) run.collected.end.ends.items → AddsFile source name settings ComeTo old new
-AddsFile-run source name settings ComeTo run old new is takes more =
+    SaysOfRun run old.said new.said → AddsFile source name settings ComeTo old new
+AddsFile-run source name settings ComeTo run old new is takes says =
     let end = run.collected.end in
     let journal = run.collected.ledger.journal in record {
       file = run.file;
       read = is.read;
       accounted = IsAccounted-alone run.file settings end.ends.items end.asked end.sealing journal is.account is.status;
       runs = λ runs. takes runs (run_alone settings run.file) (AreAlikeRuns-alone run.file settings end.ends.items end.asked end.sealing journal is.account is.status);
-      lines = more ∙ ap (λ (line : Bytes). old.lines.items ++ line) (end_lines-alone run.file settings end.ends.items end.asked end.sealing journal is.account is.status);
+      says = record {
+        lines = says.lines ∙ ap (λ (line : Bytes). old.said.lines.items ++ line) (end_lines-alone run.file settings end.ends.items end.asked end.sealing journal is.account is.status);
+        warnings = says.warnings ∙ ap (λ (own : List Warning). old.said.warnings.items ++ own) (warnings_of-alone run.file settings end.ends.items end.asked end.sealing journal is.account is.status);
+      };
     }

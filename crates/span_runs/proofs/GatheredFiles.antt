@@ -1,7 +1,7 @@
 -- Files that are gathered, one more, and those of two groups.
 use Rattle.std.specs.Prelude.{flat_map}
-use Rattle.std.proofs.{Common.{◌≡◌, List, [], ◌∷◌, ◌++◌, length, map, ap₂, subst, sym, ◌∙◌, append-nil}, lemmas.{Grind.flat_map-append, List.{length-map, map-append, map_push, Elements.{All-append, All-nil, All-push}}, Slice.Zip.AllZip-long}}
-use Rattle.span_runs.specs.{Bytes, Input, Settings, Run, Apart.{AddsFile, AreGathered, GathersFiles, IsAccounted, refusal_line, run_alone}, Inputs.{AreInputs, IsInput}, Source.SourceBytes, declared.{gathered.Gathered.Gathered, source.Name.Name}}
+use Rattle.std.proofs.{Common.{◌≡◌, List, [], ◌∷◌, ◌++◌, length, map, ap, ap₂, subst, sym, ◌∙◌, append-nil}, lemmas.{Grind.flat_map-append, List.{length-map, map-append, map_push, Elements.{All-append, All-nil, All-push}}, Slice.Zip.AllZip-long}}
+use Rattle.span_runs.specs.{Bytes, Input, Settings, Run, Warning, Apart.{AddsFile, AreGathered, GathersFiles, IsAccounted, run_alone}, Inputs.{AreInputs, IsInput}, Said.{IsBehind, SaysOfFiles, SaysMore, refusal_line, warnings_alone}, Source.SourceBytes, declared.{gathered.Gathered.Gathered, said.Said.Said, source.Name.Name}}
 
 -- inputs and others, read of names and others
 pub AreInputs-append : (source : SourceBytes) (names more : List Name) (inputs others : List Input) → AreInputs source names inputs → AreInputs source more others → AreInputs source (names ++ more) (inputs ++ others)
@@ -14,14 +14,32 @@ AreInputs-append source (name ∷ names) more (input ∷ inputs) others one othe
 pub AreInputs-push : (source : SourceBytes) (names : List Name) (inputs : List Input) (name : Name) (input : Input) → AreInputs source names inputs → IsInput source name input → AreInputs source (names ++ name ∷ []) (inputs ++ input ∷ [])
 AreInputs-push source names inputs name input read is = AreInputs-append source names (name ∷ []) inputs (input ∷ []) read (is, tt)
 
+-- what is said of one more file, in its place
+flat_map-push : {A : Type 0} (own : Input → List A) (files : List Input) (file : Input) → flat_map own (files ++ file ∷ []) ≡ flat_map own files ++ own file
+flat_map-push own files file = flat_map-append own files (file ∷ []) ∙ ap (λ (l : List _). flat_map own files ++ l) (append-nil (own file))
+
+pub SaysOfFiles-push : (settings : Settings) (files : List Input) (file : Input) (old new : Said) → SaysOfFiles settings files old → SaysMore settings file old new → SaysOfFiles settings (files ++ file ∷ []) new
+SaysOfFiles-push settings files file old new says more = record {
+  lines = more.lines ∙ (λ i. says.lines i ++ refusal_line settings.unit file) ∙ sym (flat_map-push (refusal_line settings.unit) files file);
+  warnings = more.warnings ∙ (λ i. says.warnings i ++ warnings_alone settings file) ∙ sym (flat_map-push (warnings_alone settings) files file);
+}
+
+-- what is said of files, and of others behind them
+pub SaysOfFiles-append : (settings : Settings) (files others : List Input) (first second both : Said) → SaysOfFiles settings files first → SaysOfFiles settings others second → IsBehind first second both →
+    SaysOfFiles settings (files ++ others) both
+SaysOfFiles-append settings files others first second both one other behind = record {
+  lines = behind.lines ∙ ap₂ (λ (xs ys : Bytes). xs ++ ys) one.lines other.lines ∙ sym (flat_map-append (refusal_line settings.unit) files others);
+  warnings = behind.warnings ∙ ap₂ (λ (xs ys : List Warning). xs ++ ys) one.warnings other.warnings ∙ sym (flat_map-append (warnings_alone settings) files others);
+}
+
 -- no files are gathered
-abbrev pub AreGathered-none : (source : SourceBytes) (settings : Settings) (ComeTo : List Run → Type 0) (lines : Bytes) → ComeTo [] → lines ≡ [] → AreGathered source [] settings ComeTo lines
-AreGathered-none source settings ComeTo lines is none = record {
+abbrev pub AreGathered-none : (source : SourceBytes) (settings : Settings) (ComeTo : List Run → Type 0) (said : Said) → ComeTo [] → said.lines.items ≡ [] → said.warnings.items ≡ [] → AreGathered source [] settings ComeTo said
+AreGathered-none source settings ComeTo said is no_lines no_warnings = record {
   files = [];
   read = tt;
   accounted = All-nil (IsAccounted settings);
   runs = is;
-  said = none;
+  says = record { lines = no_lines; warnings = no_warnings };
 }
 
 -- one more file is gathered, behind the others
@@ -32,20 +50,20 @@ AreGathered-push source names name settings ComeTo old new gathered adds = recor
   read = AreInputs-push source names gathered.files name adds.file gathered.read adds.read;
   accounted = All-push (IsAccounted settings) gathered.files adds.file gathered.accounted adds.accounted;
   runs = subst (λ (runs : List Run). ComeTo runs new.runs) (sym (map_push (run_alone settings) gathered.files adds.file)) (adds.runs (map (run_alone settings) gathered.files) gathered.runs);
-  said = adds.lines ∙ (λ i. gathered.said i ++ refusal_line settings.unit adds.file) ∙ sym (flat_map-append (refusal_line settings.unit) gathered.files (adds.file ∷ []) ∙ (λ i. flat_map (refusal_line settings.unit) gathered.files ++ append-nil (refusal_line settings.unit adds.file) i));
+  says = SaysOfFiles-push settings gathered.files adds.file old.said new.said gathered.says adds.says;
 }
 
 -- the files of two groups are gathered, where what these come to was joined
 pub AreGathered-append : {T : Type 0} (source : SourceBytes) (names more : List Name) (settings : Settings) (ComeTo : List Run → T → Type 0) (first second both : Gathered T) →
     GathersFiles source names settings ComeTo first → GathersFiles source more settings ComeTo second →
     ((runs others : List Run) → ComeTo runs first.runs → ComeTo others second.runs → ComeTo (runs ++ others) both.runs) →
-    both.lines.items ≡ first.lines.items ++ second.lines.items → GathersFiles source (names ++ more) settings ComeTo both
-AreGathered-append source names more settings ComeTo first second both one other joins lines = record {
+    IsBehind first.said second.said both.said → GathersFiles source (names ++ more) settings ComeTo both
+AreGathered-append source names more settings ComeTo first second both one other joins behind = record {
   files = one.files ++ other.files;
   read = AreInputs-append source names more one.files other.files one.read other.read;
   accounted = All-append (IsAccounted settings) one.files other.files one.accounted other.accounted;
   runs = subst (λ (runs : List Run). ComeTo runs both.runs) (sym (map-append (run_alone settings) one.files other.files)) (joins (map (run_alone settings) one.files) (map (run_alone settings) other.files) one.runs other.runs);
-  said = lines ∙ ap₂ (λ (xs ys : Bytes). xs ++ ys) one.said other.said ∙ sym (flat_map-append (refusal_line settings.unit) one.files other.files);
+  says = SaysOfFiles-append settings one.files other.files first.said second.said both.said one.says other.says behind;
 }
 
 -- there are as many runs as names

@@ -1,7 +1,7 @@
 -- What is said where something stopped among files, with more files after them or before them.
 use Rattle.std.specs.Prelude.{flat_map}
 use Rattle.std.proofs.{Common.{◌≡◌, ℕ, suc, ◌+◌, ◌<◌, ◌≤◌, ◌^◌, ◌⊎◌, List, [], ◌∷◌, ◌++◌, length, map, take, drop, inl, inr, refl, ap, sym, subst, ◌∙◌, append_assoc, arith}, Math.{ListN.get_or, Seq.drop-cons}, lemmas.{Grind.flat_map-append, List.{length-append, take-append-drop, Elements.All-append}}}
-use Rattle.span_runs.specs.{Bytes, FileCount, number_of, IsHint, run_line, Settings, Run, Apart.{GathersFiles, IsAccounted, refusal_line, run_alone}, Source.SourceBytes, Stops.{HaltsAfter, IsHinted, OfStop, StopsAfter, StopsAmong, StopsAtFirst}, declared.{gathered.Gathered.Gathered, source.Name.Name, stop.Halt.{Halt, TheVariants.{Stopped, Memory}}}}
+use Rattle.span_runs.specs.{Bytes, FileCount, number_of, IsHint, run_line, Settings, Run, Apart.{GathersFiles, IsAccounted, run_alone}, Said.refusal_line, Source.SourceBytes, Stops.{HaltsAfter, IsHinted, OfStop, StopsAfter, StopsAmong, StopsAtFirst}, declared.{gathered.Gathered.Gathered, source.Name.Name, stop.Halt.{Halt, TheVariants.{Stopped, Memory}}}}
 use Rattle.span_runs.proofs.GatheredFiles.{AreInputs-append, length-gathered}
 
 -- what is said means more
@@ -29,7 +29,7 @@ module _ (source : SourceBytes) (settings : Settings) where
   Causes names later own = StopsAtFirst source settings later own ⊎ ((2 ^ 32 ≤ length names) × (own ≡ run_line (number_of FileCount)))
 
   -- behind files that were gathered
-  StopsAmong-behind : {T : Type 0} (done later : List Name) (ComeTo : List Run → T → Type 0) (old : Gathered T) (own lines : Bytes) → GathersFiles source done settings ComeTo old → lines ≡ old.lines.items ++ own →
+  StopsAmong-behind : {T : Type 0} (done later : List Name) (ComeTo : List Run → T → Type 0) (old : Gathered T) (own lines : Bytes) → GathersFiles source done settings ComeTo old → lines ≡ old.said.lines.items ++ own →
       Causes (done ++ later) later own → StopsAmong source settings (done ++ later) lines
   StopsAmong-behind done later ComeTo old own lines gathered same cause = record {
     done = done;
@@ -39,7 +39,7 @@ module _ (source : SourceBytes) (settings : Settings) where
     read = gathered.read;
     accounted = gathered.accounted;
     own = own;
-    said = same ∙ ap (λ (before : Bytes). before ++ own) gathered.said;
+    said = same ∙ ap (λ (before : Bytes). before ++ own) gathered.says.lines;
     cause = cause;
   }
 
@@ -63,7 +63,7 @@ module _ (source : SourceBytes) (settings : Settings) where
 
   -- where the runs of two groups of files are too many to be joined
   pub StopsAmong-joined : {T : Type 0} (names more : List Name) (ComeTo : List Run → T → Type 0) (first second : Gathered T) → GathersFiles source names settings ComeTo first → GathersFiles source more settings ComeTo second →
-      (lines : Bytes) → lines ≡ first.lines.items ++ run_line (number_of FileCount) → ((runs others : List Run) → ComeTo runs first.runs → ComeTo others second.runs → 2 ^ 32 ≤ length runs + length others) →
+      (lines : Bytes) → lines ≡ first.said.lines.items ++ run_line (number_of FileCount) → ((runs others : List Run) → ComeTo runs first.runs → ComeTo others second.runs → 2 ^ 32 ≤ length runs + length others) →
       StopsAmong source settings (names ++ more) lines
   StopsAmong-joined names more ComeTo first second one other lines same many =
       let runs = map (run_alone settings) one.files in
@@ -99,7 +99,7 @@ module _ (source : SourceBytes) (settings : Settings) where
 
   -- with files before them that were gathered
   pub StopsAmong-after : {T : Type 0} (names more : List Name) (ComeTo : List Run → T → Type 0) (first : Gathered T) → GathersFiles source names settings ComeTo first → (lines : Bytes) →
-      StopsAmong source settings more lines → StopsAmong source settings (names ++ more) (first.lines.items ++ lines)
+      StopsAmong source settings more lines → StopsAmong source settings (names ++ more) (first.said.lines.items ++ lines)
   StopsAmong-after names more ComeTo first gathered lines stops = record {
     done = names ++ stops.done;
     later = stops.later;
@@ -109,7 +109,7 @@ module _ (source : SourceBytes) (settings : Settings) where
     accounted = All-append (IsAccounted settings) gathered.files stops.files gathered.accounted stops.accounted;
     own = stops.own;
     said =
-        (λ i. gathered.said i ++ stops.said i) ∙ sym (append_assoc (flat_map (refusal_line settings.unit) gathered.files) (flat_map (refusal_line settings.unit) stops.files) stops.own)
+        (λ i. gathered.says.lines i ++ stops.said i) ∙ sym (append_assoc (flat_map (refusal_line settings.unit) gathered.files) (flat_map (refusal_line settings.unit) stops.files) stops.own)
         ∙ ap (λ (before : Bytes). before ++ stops.own) (sym (flat_map-append (refusal_line settings.unit) gathered.files stops.files));
     cause = Causes-after names more stops.later stops.own stops.cause;
   }

@@ -1,6 +1,6 @@
 -- Files each of which is a run of its own, gathered.
-use Rattle.std.specs.Prelude.{◌≡◌, ◌<◌, List, [], ◌∷◌, ◌++◌, length, map, flat_map, All}
-use Rattle.span_runs.specs.{Bytes, Entry, Unit, doc, FileEnd, Input, Asked, Sealing, Settings, end_line, end_by, status_of, SealedAccount, Run, AreAlikeRuns, Inputs.{AreInputs, IsInput}, Runs.{run_in_turn, run_of_files}, Source.SourceBytes, declared.{file_run.FileRun.FileRun, gathered.Gathered.Gathered, source.Name.Name}}
+use Rattle.std.specs.Prelude.{◌≡◌, ◌<◌, List, [], ◌∷◌, ◌++◌, length, map, All}
+use Rattle.span_runs.specs.{Entry, FileEnd, Input, Asked, Sealing, Settings, status_of, SealedAccount, Run, AreAlikeRuns, Inputs.{AreInputs, IsInput}, Runs.{run_in_turn, run_of_files}, Said.{SaysMore, SaysOfFiles}, Source.SourceBytes, declared.{file_run.FileRun.FileRun, gathered.Gathered.Gathered, said.Said.Said, source.Name.Name}}
 
 -- the run of a file alone
 abbrev pub run_alone : Settings → Input → Run
@@ -28,22 +28,18 @@ pub record IsFileRun (source : SourceBytes) (name : Name) (settings : Settings) 
 abbrev pub run_of : FileRun → Run
 run_of run = run_of_files (run.file ∷ []) run.collected.end.ends.items run.collected.ledger.journal
 
--- the fault line of a file that is no trace; another has none
-abbrev pub refusal_line : Unit → Input → Bytes
-refusal_line unit file = end_line file.name (end_by 1 (doc unit file.bytes.items))
-
--- Each of the files of these names was collected alone; this is what the runs come to, and the lines are those of the files that are no trace,
--- both in the files' order.
-pub record AreGathered (source : SourceBytes) (names : List Name) (settings : Settings) (ComeTo : List Run → Type 0) (lines : Bytes) : Type 0 where
+-- Each of the files of these names was collected alone; this is what the runs come to, and what is said of the files, both in their
+-- order.
+pub record AreGathered (source : SourceBytes) (names : List Name) (settings : Settings) (ComeTo : List Run → Type 0) (said : Said) : Type 0 where
   pub files : List Input
   pub read : AreInputs source names files
   pub accounted : All (IsAccounted settings) files
   pub runs : ComeTo (map (run_alone settings) files)
-  pub said : lines ≡ flat_map (refusal_line settings.unit) files
+  pub says : SaysOfFiles settings files said
 
 -- this is what files of these names come to
 abbrev pub GathersFiles : {T : Type 0} → SourceBytes → List Name → Settings → (List Run → T → Type 0) → Gathered T → Type 0
-GathersFiles source names settings ComeTo gathered = AreGathered source names settings (λ runs. ComeTo runs gathered.runs) gathered.lines.items
+GathersFiles source names settings ComeTo gathered = AreGathered source names settings (λ runs. ComeTo runs gathered.runs) gathered.said
 
 -- one more file is gathered
 pub record AddsFile {T : Type 0} (source : SourceBytes) (name : Name) (settings : Settings) (ComeTo : List Run → T → Type 0) (old new : Gathered T) : Type 0 where
@@ -51,4 +47,4 @@ pub record AddsFile {T : Type 0} (source : SourceBytes) (name : Name) (settings 
   pub read : IsInput source name file
   pub accounted : IsAccounted settings file
   pub runs : (runs : List Run) → ComeTo runs old.runs → ComeTo (runs ++ run_alone settings file ∷ []) new.runs
-  pub lines : new.lines.items ≡ old.lines.items ++ refusal_line settings.unit file
+  pub says : SaysMore settings file old.said new.said

@@ -1,6 +1,6 @@
 -- Why files were not all gathered, and what is said of it.
 use Rattle.std.specs.Prelude.{◌≡◌, ◌⊎◌, ℕ, ◌+◌, ◌≤◌, ◌^◌, List, [], ◌∷◌, ◌++◌, flat_map, length, All, Option, Some, None, Result, MatchResult}
-use Rattle.span_runs.specs.{Bytes, FileCount, number_of, code_of, Entry, Cause, FileEnd, Input, Asked, RunError, Sealing, Settings, end_lines, fault_line, IsHint, run_line, unread_line, IsNotCollected, run_code, status_of, SealedAccount, Column, Of, Run, Apart.{AddsFile, GathersFiles, IsAccounted, refusal_line}, Inputs.{AreInputs, IsInput}, Source.{SourceBytes, printed}, declared.{gathered.Gathered.Gathered, source.Name.Name, stop.Halt.{Halt, TheVariants.{Stopped, Memory}}}}
+use Rattle.span_runs.specs.{Bytes, FileCount, number_of, code_of, Entry, Cause, FileEnd, Input, Asked, RunError, Sealing, Settings, end_lines, fault_line, IsHint, run_line, unread_line, IsNotCollected, run_code, status_of, SealedAccount, Column, Of, Run, Apart.{AddsFile, GathersFiles, IsAccounted}, Inputs.{AreInputs, IsInput}, Said.refusal_line, Source.{SourceBytes, printed}, declared.{gathered.Gathered.Gathered, source.Name.Name, stop.Halt.{Halt, TheVariants.{Stopped, Memory}}}}
 
 -- what is said of a stop, perhaps with hints behind it; nothing is known where memory was refused
 abbrev pub OfStop : (Bytes → Type 0) → Halt → Type 0
@@ -81,7 +81,7 @@ IsTooMany ComeTo old more before lines = (lines ≡ before ++ run_line (number_o
 
 -- this is said where one more file isn't gathered: it stopped, behind the lines before, or there are 2^32 or more
 abbrev pub StopsAfter : {T : Type 0} → SourceBytes → Name → Settings → (List Run → T → Type 0) → Gathered T → Bytes → Type 0
-StopsAfter source name settings ComeTo old lines = ((own : Bytes) × StopsAt source settings name own × (lines ≡ old.lines.items ++ own)) ⊎ IsTooMany ComeTo old.runs 1 old.lines.items lines
+StopsAfter source name settings ComeTo old lines = ((own : Bytes) × StopsAt source settings name own × (lines ≡ old.said.lines.items ++ own)) ⊎ IsTooMany ComeTo old.runs 1 old.said.lines.items lines
 
 -- one more file is gathered, or something stopped at it
 abbrev pub AddsOrStops : {T : Type 0} → SourceBytes → Name → Settings → (List Run → T → Type 0) → Gathered T → Result (Gathered T) Halt → Type 0

@@ -132,7 +132,10 @@ fn add_file<T: Gathering, S: Source, R: Threads + Wait + RandomSource + Sync>(
 {
     let collected = match collect_file(rt, work.alloc, work.source, name, &work.settings) {
         Ok(collected) => collected,
-        Err(halt) => return Err(halt.after(gathered.lines)),
+        Err(halt) => {
+            let Gathered { said, .. } = gathered;
+            return Err(halt.after(said.lines));
+        }
     };
     match gathered.with_run(work.alloc, work.keys, work.of, work.columns, &collected) {
         Ok(more) => Ok(more),
@@ -154,7 +157,10 @@ fn joined<T: Gathering>(
     };
     let second = match second {
         Ok(second) => second,
-        Err(halt) => return Err(halt.after(first.lines)),
+        Err(halt) => {
+            let Gathered { said, .. } = first;
+            return Err(halt.after(said.lines));
+        }
     };
     match first.joined(alloc, second) {
         Ok(both) => Ok(both),

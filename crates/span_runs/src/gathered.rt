@@ -1,22 +1,21 @@
 //! Files that were each a run of its own, as they are gathered.
 ghost use Rattle.std.specs.Prelude.{◌≡◌, ◌+◌, ◌≤◌, ◌^◌, ◌∷◌, ◌++◌, [], List, length, IfErr, IfOk};
-ghost use Rattle.span_runs.specs.{FileCount, number_of, end_lines, run_line, Column as TheColumn, Of as TheOf, Run, TooMany, Apart.run_of, Gathering.TakesAlike, Stops.{IsTooMany, OfStop}, declared.stop.Halt.TheVariants.Memory};
+ghost use Rattle.span_runs.specs.{FileCount, number_of, run_line, Column as TheColumn, Of as TheOf, Run, TooMany, Apart.run_of, Gathering.TakesAlike, Said.{IsBehind, SaysOfRun}, Stops.{IsTooMany, OfStop}, declared.stop.Halt.TheVariants.Memory};
 
 use crate::file_run::FileRun;
 use crate::gathering::Gathering;
+use crate::said::Said;
 use crate::stop::Halt;
-use span_collect::fault_lines;
 use span_event::Fault;
 use span_names::HashKeys;
 use span_table::{Column, Of, SumFault};
 use std::alloc::{AllocError, Global};
-use std::slice::from_ref;
 
-/// What files that were each a run of its own come to, and the fault lines of those that are no trace, in the files' order.
+/// What files that were each a run of its own come to, and what is said of them.
 #[derive(Drop)]
 pub struct Gathered<T> {
     pub runs: T,
-    pub lines: Vec<u8>,
+    pub said: Said,
 }
 
 impl<T: Gathering> Gathered<T> {
@@ -28,11 +27,12 @@ impl<T: Gathering> Gathered<T> {
         columns: &[Column],
     ) -> Result<Gathered<T>, AllocError>
         ensures runs { IfOk result (λ none. T.come_to of columns.now [] none.runs) }
-        ensures lines { IfOk result (λ none. none.lines.items ≡ []) }
+        ensures lines { IfOk result (λ none. none.said.lines.items ≡ []) }
+        ensures warnings { IfOk result (λ none. none.said.warnings.items ≡ []) }
     {
         Ok(Gathered {
             runs: T::of_none(alloc, keys, of, columns)?,
-            lines: Vec::new(alloc),
+            said: Said::nothing(alloc),
         })
     }
 
@@ -48,18 +48,17 @@ impl<T: Gathering> Gathered<T> {
         requires { length run.now.collected.end.ends.items ≡ 1 }
         ensures runs { IfOk result (λ more.
             TakesAlike (T.come_to of columns.now) self.runs (run_of run.now) more.runs) }
-        ensures lines { IfOk result (λ more. more.lines.items
-            ≡ self.lines.items ++ end_lines (run.now.file ∷ []) run.now.collected.end.ends.items) }
+        ensures said { IfOk result (λ more. SaysOfRun run.now self.said more.said) }
         ensures stop { IfErr result (OfStop
-            (IsTooMany (T.come_to of columns.now) self.runs 1 self.lines.items)) }
+            (IsTooMany (T.come_to of columns.now) self.runs 1 self.said.lines.items)) }
     {
-        let Gathered { runs, lines } = self;
-        let Ok(more) = fault_lines(alloc, from_ref(&run.file), &run.collected.end.ends) else {
+        let Gathered { runs, said } = self;
+        let Ok(more) = Said::of_run(alloc, run) else {
             return Err(Halt::Memory);
         };
         match runs.with_run(alloc, keys, of, columns, run) {
-            Ok(runs) => with_lines(runs, lines, more.as_bytes()),
-            Err(fault) => Err(halt_of_sum(alloc, fault, lines)),
+            Ok(runs) => with_said(runs, said, more),
+            Err(fault) => Err(halt_of_sum(alloc, fault, said.lines)),
         }
     }
 
@@ -69,35 +68,33 @@ impl<T: Gathering> Gathered<T> {
             (of : TheOf) (columns : List TheColumn) (runs others : List Run)
             → T.come_to of columns runs self.runs → T.come_to of columns others other.runs
             → T.come_to of columns (runs ++ others) both.runs) }
-        ensures lines { IfOk result (λ both. both.lines.items
-            ≡ self.lines.items ++ other.lines.items) }
+        ensures said { IfOk result (λ both. IsBehind self.said other.said both.said) }
         ensures stop { IfErr result (OfStop (λ lines.
-            (lines ≡ self.lines.items ++ run_line (number_of FileCount))
+            (lines ≡ self.said.lines.items ++ run_line (number_of FileCount))
             × ((of : TheOf) (columns : List TheColumn) (runs others : List Run)
             → T.come_to of columns runs self.runs → T.come_to of columns others other.runs
             → 2 ^ 32 ≤ length runs + length others))) }
     {
-        let Gathered { runs, lines } = self;
+        let Gathered { runs, said } = self;
         let Gathered {
             runs: more_runs,
-            lines: more_lines,
+            said: more,
         } = other;
         match runs.joined(more_runs) {
-            Ok(runs) => with_lines(runs, lines, &more_lines),
-            Err(fault) => Err(halt_of_sum(alloc, fault, lines)),
+            Ok(runs) => with_said(runs, said, more),
+            Err(fault) => Err(halt_of_sum(alloc, fault, said.lines)),
         }
     }
 }
 
-// What runs come to with these lines and more behind them.
-fn with_lines<T: Drop>(runs: T, lines: Vec<u8>, more: &[u8]) -> Result<Gathered<T>, Halt>
+// What runs come to, with this said of some and more of others behind it.
+fn with_said<T: Drop>(runs: T, said: Said, more: Said) -> Result<Gathered<T>, Halt>
     ensures runs { IfOk result (λ gathered. gathered.runs ≡ runs) }
-    ensures lines { IfOk result (λ gathered. gathered.lines.items ≡ lines.items ++ more.now) }
+    ensures said { IfOk result (λ gathered. IsBehind said more gathered.said) }
     ensures memory { IfErr result (λ halt. halt ≡ Memory) }
 {
-    let mut lines = lines;
-    match lines.extend_from_slice(more) {
-        Ok(()) => Ok(Gathered { runs, lines }),
+    match said.with(more) {
+        Ok(said) => Ok(Gathered { runs, said }),
         Err(_) => Err(Halt::Memory),
     }
 }

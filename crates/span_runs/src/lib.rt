@@ -11,6 +11,7 @@ mod gathering;
 mod jobs;
 mod names;
 mod runs;
+mod said;
 mod source;
 mod stop;
 
@@ -22,7 +23,9 @@ pub use gathering::Gathering;
 pub use jobs::{Stopped, in_jobs};
 pub use names::{Named, is_standard, names_of, names_of_words};
 pub use runs::table_of_run;
+pub use said::Said;
 pub use source::{Name, Source, SourceFault, sizes_of};
+pub use span_collect::refusals::Warning;
 pub use span_collect::{Collected, Input, Settings};
 pub use span_event::Text;
 pub use span_faults::Reason;

@@ -44,7 +44,7 @@ module _ (source : SourceBytes) (options : TableOptions) (by : Option Number) (e
 
   -- and the second may stop behind the first
   pub StopSides-runs : (items : Items) (base_names names : List Name) (base : Side) (own lines : Bytes) → (items ≡ Printed → ⊥) → IsOneSide source items options by each base_names base →
-      StopsOneSide source items options by each names own → lines ≡ base.lines.items ++ own → StopSides source items options by each base_names names lines
+      StopsOneSide source items options by each names own → lines ≡ base.said.lines.items ++ own → StopSides source items options by each base_names names lines
   StopSides-runs items base_names names base own lines runs one stops said = inr (record {
     parts = one.parts;
     kind = one.kind;

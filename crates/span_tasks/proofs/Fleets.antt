@@ -1,13 +1,13 @@
 -- Whatever a fleet prints is the table of the runs of all its files.
 use Rattle.std.specs.{List.AllZip, Prelude.{flat_map, IfSome}}
-use Rattle.std.proofs.{Common.{◌≡◌, ◌⊎◌, ℕ, ◌+◌, ◌<◌, ◌≤◌, Bool, true, false, cond, List, [], ◌∷◌, ◌++◌, All, Contains, filter, length, map, take, Option, Some, None, inl, inr, refl, sym, ap, ap₂, subst, ◌∙◌, arith}, lemmas.List.{append-nil, length-take, take_all, Elements.{All-filter, All-head, All-tail}}}
+use Rattle.std.proofs.{Common.{◌≡◌, ◌⊎◌, ℕ, ◌+◌, ◌<◌, ◌≤◌, Bool, true, false, cond, List, [], ◌∷◌, All, Contains, filter, length, map, take, Option, Some, None, inl, inr, refl, sym, ap, ap₂, subst, ◌∙◌, arith}, lemmas.List.{append-nil, length-take, take_all, Elements.{All-filter, All-head, All-tail}}}
 use Rattle.span_table.proofs.AddedTables.{table_of-moved}
 use Rattle.span_table_text.specs.{Printed.{AreDistinct, HasOwn}, Shown.is_wanted, Json.text_of}
 use Rattle.span_table_text.proofs.{Determined.prints-determined, RunTables.{shown_table-all, table_of-HasOwnNumbers, table_of-HasWholeKeys}}
 use Rattle.span_table.specs.{Columns.column_name, Adding.{add_tables, with_columns}, declared.table.Row.Row}
 use Rattle.span_parts.proofs.RunSums.{sum-runs, sum-shown}
-use Rattle.span_request.specs.declared.tasks.Items.TheVariants.{Apart as EachApart, Printed, Together}
-use Rattle.span_tasks.specs.{Bytes, Settings, run_alone, run_of_files, Number, Column, IsPart, IsPrint, Name, Of, PartSum, Run, SumsParts, SourceBytes, TimeUnit, SpanTable, TableOptions, Wanted, shown_table, table_of, picked, chosen, AreAt, AreParts, Json, Added.{AreAsked, AreOfFirst, IsText, most_added, with_sum}, Tabulations.PrintsTable, Fleet.{AreRunsOf, AreRunsOfEach, Fleet, Fleets, FleetsLoseNothing, FleetsPrintAlike, KeepsColumns, PrintEach, Prints, ShowEach, Shows, TableKind, all_rows, kind_of, kind_of_first, more, of_files, of_printed, one}}
+use Rattle.span_request.specs.declared.tasks.Items.TheVariants.{Printed}
+use Rattle.span_tasks.specs.{Bytes, Settings, run_alone, run_of_files, Number, Column, IsPart, IsPrint, Name, Of, PartSum, Run, SumsParts, SourceBytes, TimeUnit, SpanTable, TableOptions, Wanted, shown_table, table_of, picked, chosen, AreAt, AreParts, Added.{AreAsked, AreOfFirst, IsText, most_added, with_sum}, Tabulations.MakesJson, Fleet.{AreRunsOf, AreRunsOfEach, Fleet, Fleets, FleetsLoseNothing, FleetsPrintAlike, KeepsColumns, PrintEach, ShowEach, TableKind, all_rows, kind_of, kind_of_first, more, of_files, of_printed, one}}
 
 -- the one table of a list
 pub only-same : (first other : SpanTable) → first ∷ [] ≡ other ∷ [] → first ≡ other
@@ -109,7 +109,7 @@ files-print settings options wanted runs text unit table shows in_unit is print 
 abbrev kind_of_sum : PartSum → TableKind
 kind_of_sum parts = record { of = parts.of; unit = parts.unit; columns = parts.columns }
 
-module _ (wanted : Wanted) (source : SourceBytes) (options : TableOptions) (names : List Name) (parts : Fleets) (text lines : Bytes) (prints : PrintsTable source Printed options names Json text lines) where
+module _ (wanted : Wanted) (source : SourceBytes) (options : TableOptions) (names : List Name) (parts : Fleets) (text : Bytes) (prints : MakesJson source Printed options names text) where
   abbrev own_parts : PartSum
   own_parts = prints.one.is.parts
 
@@ -163,27 +163,27 @@ module _ (wanted : Wanted) (source : SourceBytes) (options : TableOptions) (name
 mutual
   -- whatever a fleet prints is the table of the runs of all its files
   pub fleets-whole : FleetsLoseNothing
-  fleets-whole wanted (of_files source true settings options names) text shows (lines, prints) =
+  fleets-whole wanted (of_files source true settings options names) text shows prints =
       let side = prints.one.is.is in
       let runs = map (run_alone settings) side.1.files in
       let table = only-same prints.one.table (table_of options.of options.columns.items runs) (sym prints.one.only ∙ side.1.runs) in
       (runs, (side.1.files, side.1.read, side.1.accounted, refl), files-print settings options wanted runs text prints.one.side.unit prints.one.table shows side.0.unit table prints.is)
-  fleets-whole wanted (of_files source false settings options names) text shows (lines, prints) =
+  fleets-whole wanted (of_files source false settings options names) text shows prints =
       let side = prints.one.is.is in
       let run = side.1.run in
       let runs = run_of_files run.inputs.items run.collected.end.ends.items run.collected.ledger.journal ∷ [] in
       let table = only-same prints.one.table (table_of options.of options.columns.items runs) (sym prints.one.only ∙ side.1.is) in
       (runs, (run, side.1.ended, refl), files-print settings options wanted runs text prints.one.side.unit prints.one.table shows side.0.unit table prints.is)
-  fleets-whole wanted (of_printed source options names parts) text (inl (shows, all)) ((lines, prints), (texts, held, each)) =
+  fleets-whole wanted (of_printed source options names parts) text (inl (shows, all)) (prints, (texts, held, each)) =
       let adds = prints.one.is.is.1.1 in
       let own = prints.one.is.parts in
       let sums = subst (λ ts. SumsParts ts (with_sum own prints.one.is.is.1.0)) (texts-held source names adds.texts texts adds.read held) adds.sums in
-      sum-all wanted source options names parts text lines prints texts sums (parts-whole all_rows (kind_of_sum own) parts texts sums.parts all each sums.are sums.kinds sums.columns) shows
-  fleets-whole wanted (of_printed source options names parts) text (inr (shows, keeps, shown)) ((lines, prints), (texts, held, each)) =
+      sum-all wanted source options names parts text prints texts sums (parts-whole all_rows (kind_of_sum own) parts texts sums.parts all each sums.are sums.kinds sums.columns) shows
+  fleets-whole wanted (of_printed source options names parts) text (inr (shows, keeps, shown)) (prints, (texts, held, each)) =
       let adds = prints.one.is.is.1.1 in
       let own = prints.one.is.parts in
       let sums = subst (λ ts. SumsParts ts (with_sum own prints.one.is.is.1.0)) (texts-held source names adds.texts texts adds.read held) adds.sums in
-      sum-each wanted source options names parts text lines prints texts sums (parts-whole wanted (kind_of_sum own) parts texts sums.parts shown each sums.are sums.kinds sums.columns) keeps shows
+      sum-each wanted source options names parts text prints texts sums (parts-whole wanted (kind_of_sum own) parts texts sums.parts shown each sums.are sums.kinds sums.columns) keeps shows
 
   parts-whole : (wanted : Wanted) (kind : TableKind) (parts : Fleets) (texts : List Bytes) (tables : List SpanTable) → ShowEach wanted parts → PrintEach parts texts → AreParts kind.unit texts tables →
       All (λ table. table.of ≡ kind.of) tables → All (λ table. table.columns ≡ kind.columns) tables → HaveRuns wanted kind parts tables

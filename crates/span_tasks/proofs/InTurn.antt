@@ -17,7 +17,7 @@ module _ (files : List Input) (settings : Settings) (ends : List FileEnd) (asked
 
   -- each view
   pub text_of-in_turn : (view : View) → text_of settings.unit view files ends journal ≡ text_in_turn (text_of settings.unit view files) files [] settings
-  text_of-in_turn Report = report_of-alike settings.unit journal (journal_in_turn settings files []) alike
+  text_of-in_turn (Report warns) = report_of-alike settings.unit journal (journal_in_turn settings files []) alike
   text_of-in_turn Refusals = refusals_of-in_turn files [] settings ends asked sealing journal account separate below
   text_of-in_turn (Folded labels) = (stacks-alike journal (journal_in_turn settings files []) alike).text labels.items
   text_of-in_turn (Page view) =

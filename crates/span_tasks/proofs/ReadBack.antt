@@ -10,7 +10,7 @@ use Rattle.span_request.specs.{Options, Columns.is_file, Laws.{AddedTablesMayHav
 use Rattle.span_request.specs.declared.tasks.Items.{Items, TheVariants.{Apart, Printed, Together}}
 use Rattle.span_table.specs.Columns.{goes_with}
 use Rattle.span_table.specs.declared.column.Column.TheVariants as of
-use Rattle.span_tasks.specs.{AreColumns, Column, HasOtherColumns, Input, IsPart, IsPrint, Json, Name, Of, PartSum, Run, Settings, SourceBytes, SpanTable, TableOptions, TimeUnit, chosen, goes_by, printed, run_alone, run_of_files, shown_table, table_of, unread_line, AreAt, Added.{AreAsked, AreOfFirst, AreTooMany, IsOfKind, IsRead, IsText, LacksAsked, StopsAdding, StopsNext, most_added, with_sum}, ReadBack.{HasPart, JsonLinesAreParts, PartsAreAdded}, Tabulations.{PrintsTable, PrintsText}}
+use Rattle.span_tasks.specs.{AreColumns, Column, HasOtherColumns, Input, IsPart, IsPrint, Name, Of, PartSum, Run, Settings, SourceBytes, SpanTable, TableOptions, TimeUnit, chosen, goes_by, printed, run_alone, run_of_files, shown_table, table_of, unread_line, AreAt, Added.{AreAsked, AreOfFirst, AreTooMany, IsOfKind, IsRead, IsText, LacksAsked, StopsAdding, StopsNext, most_added, with_sum}, ReadBack.{HasPart, JsonLinesAreParts, PartsAreAdded}, Tabulations.{MakesJson, PrintsText}}
 use Rattle.span_tasks.proofs.{Fleets.only-same, InTurn.journal_in_turn-legal}
 
 -- each column stands somewhere among them
@@ -118,12 +118,12 @@ own-file settings columns file = λ k d low. by (get_or columns k d)
     by of.Id = tt
     by (of.Argument key) = tt
 
-module _ (source : SourceBytes) (options : TableOptions) (names : List Name) (text lines : Bytes) where
+module _ (source : SourceBytes) (options : TableOptions) (names : List Name) (text : Bytes) where
   abbrev IsSomePart : Type 0
   IsSomePart = (unit : TimeUnit) × (part : SpanTable) × IsPart unit text part
 
   -- one run's table
-  part-of_run : (settings : Settings) → AreColumns options.of options.columns.items → list_any is_file options.columns.items ≡ false → PrintsTable source (Together settings) options names Json text lines →
+  part-of_run : (settings : Settings) → AreColumns options.of options.columns.items → list_any is_file options.columns.items ≡ false → MakesJson source (Together settings) options names text →
       IsSomePart
   part-of_run settings are none prints =
       let side = prints.one.is.is in
@@ -138,7 +138,7 @@ module _ (source : SourceBytes) (options : TableOptions) (names : List Name) (te
       )
 
   -- that of files apart
-  part-of_files : (settings : Settings) → AreColumns options.of options.columns.items → PrintsTable source (Apart settings) options names Json text lines → IsSomePart
+  part-of_files : (settings : Settings) → AreColumns options.of options.columns.items → MakesJson source (Apart settings) options names text → IsSomePart
   part-of_files settings are prints =
       let side = prints.one.is.is in
       let files = side.1.files in
@@ -155,7 +155,7 @@ module _ (source : SourceBytes) (options : TableOptions) (names : List Name) (te
 
   -- that of added tables
   part-of_parts : SumsAreParts → ((own : Of) → All (λ column. goes_with own column ≡ true) options.columns.items → (options.columns.items ≡ []) ⊎ AreColumns own options.columns.items)
-      → PrintsTable source Printed options names Json text lines → IsSomePart
+      → MakesJson source Printed options names text → IsSomePart
   part-of_parts sums may prints =
       let parts = prints.one.is.parts in
       let first = first-kind names prints.one.is.kind in
@@ -205,8 +205,8 @@ json-parts made added sums source words task files outcome asks rows is below = 
   | inl ended ↦
       let names = ended.1.0 in
       let text = outcome.output.items in
-      let prints = subst (λ asked. PrintsText source task.items task.options names asked text outcome.lines.items) rows ended.1.2 in
-      by names prints asks.0.add (takes_apart asks.0) refl refl asks.2.3.1
+      let prints = subst (λ asked. PrintsText source task.items task.options names asked text outcome.lines.items outcome.warnings.items) rows ended.1.2 in
+      by names prints.made asks.0.add (takes_apart asks.0) refl refl asks.2.3.1
   | inr stopped ↦ absurd (omega (arith, stopped.0, below))
 ]
   where
@@ -220,16 +220,16 @@ json-parts made added sums source words task files outcome asks rows is below = 
     columns : options.add ≡ false → AreColumns task.options.of task.options.columns.items
     columns adds = subst (AreColumns task.options.of) (sym asks.2.3.3.1) (subst (λ (of : Of). AreColumns of asks.2.1) (sym asks.2.3.3.0) (made options asks.2.0 asks.2.1 asks.2.2 adds))
 
-    by : (names : List Name) → PrintsTable source task.items task.options names Json outcome.output.items outcome.lines.items → (add apart : Bool) → options.add ≡ add → takes_apart options ≡ apart →
+    by : (names : List Name) → MakesJson source task.items task.options names outcome.output.items → (add apart : Bool) → options.add ≡ add → takes_apart options ≡ apart →
         task.items ≡ cond add Printed (cond apart (Apart (settings_of options)) (Together (settings_of options))) → (unit : TimeUnit) × (part : SpanTable) × IsPart unit outcome.output.items part
     by names prints true apart adds takes items =
-        part-of_parts source task.options names outcome.output.items outcome.lines.items sums
+        part-of_parts source task.options names outcome.output.items sums
         (λ own. given asks.2.1 asks.2.3.3.1 own (λ goes. added options asks.2.0 own asks.2.1 asks.2.2 adds goes))
-        (subst (λ (i : Items). PrintsTable source i task.options names Json outcome.output.items outcome.lines.items) items prints)
+        (subst (λ (i : Items). MakesJson source i task.options names outcome.output.items) items prints)
     by names prints false true adds takes items =
-        part-of_files source task.options names outcome.output.items outcome.lines.items (settings_of options) (columns adds)
-        (subst (λ (i : Items). PrintsTable source i task.options names Json outcome.output.items outcome.lines.items) items prints)
+        part-of_files source task.options names outcome.output.items (settings_of options) (columns adds)
+        (subst (λ (i : Items). MakesJson source i task.options names outcome.output.items) items prints)
     by names prints false false adds takes items =
-        part-of_run source task.options names outcome.output.items outcome.lines.items (settings_of options) (columns adds)
+        part-of_run source task.options names outcome.output.items (settings_of options) (columns adds)
         (ap (list_any is_file) asks.2.3.3.1 ∙ file-none options asks.2.0 asks.2.1 asks.2.2.suited adds takes)
-        (subst (λ (i : Items). PrintsTable source i task.options names Json outcome.output.items outcome.lines.items) items prints)
+        (subst (λ (i : Items). MakesJson source i task.options names outcome.output.items) items prints)

@@ -25,10 +25,10 @@ TakesRun-alone labels source name settings run old new is takes runs holds =
 
 module _ (source : SourceBytes) (settings : Settings) (view : PageView) where
   -- no files
-  pub AreHeld-none : (shown : ShownFiles) → asked_for view [] shown.summed.runs → shown.summed.lines.items ≡ [] → Holds settings.unit view.labels.items [] shown.page →
+  pub AreHeld-none : (shown : ShownFiles) → asked_for view [] shown.summed.runs → shown.summed.said.lines.items ≡ [] → shown.summed.said.warnings.items ≡ [] → Holds settings.unit view.labels.items [] shown.page →
       AreHeld (map (shown_alone settings)) source [] settings view shown
-  AreHeld-none shown sum lines runs = record {
-    sums = AreGathered-none source settings (λ runs. asked_for view runs shown.summed.runs) shown.summed.lines.items sum lines;
+  AreHeld-none shown sum lines warnings runs = record {
+    sums = AreGathered-none source settings (λ runs. asked_for view runs shown.summed.runs) shown.summed.said sum lines warnings;
     runs = runs;
   }
 

@@ -1,7 +1,7 @@
 -- Files that are summed on many machines, and tables that are added in whatever groups.
 use Rattle.std.specs.{List.{AllZip, Sorted.IsPermutation}, Prelude.{◌≡◌, ◌⊎◌, Bool, true, false, List, [], ◌∷◌, ◌++◌, map, All, Contains, Some}}
 use Rattle.span_request.specs.declared.tasks.Items.TheVariants.{Apart as EachApart, Printed, Together}
-use Rattle.span_tasks.specs.{Bytes, Input, Settings, IsAccounted, run_alone, run_of_files, AreInputs, Name, SourceBytes, TimeUnit, Column, Of, Run, SpanTable, table_of, IsPrint, Wanted, shown_table, chosen, Items, Json, TableOptions, Tabulations.PrintsTable, Together.EndsWell, declared.together.TogetherRun.TogetherRun}
+use Rattle.span_tasks.specs.{Bytes, Input, Settings, IsAccounted, run_alone, run_of_files, AreInputs, Name, SourceBytes, TimeUnit, Column, Of, Run, table_of, IsPrint, Wanted, shown_table, chosen, Items, TableOptions, Tabulations.MakesJson, Together.EndsWell, declared.together.TogetherRun.TogetherRun}
 
 mutual
   -- A run of the program that prints a table as JSON Lines: of files, each apart or together, or of tables that others printed.
@@ -18,15 +18,11 @@ abbrev pub items_of : Bool → Settings → Items
 items_of true settings = EachApart settings
 items_of false settings = Together settings
 
--- a table of these items is printed, by such options
-abbrev pub PrintsLines : SourceBytes → Items → TableOptions → List Name → Bytes → Type 0
-PrintsLines source items options names text = (lines : Bytes) × PrintsTable source items options names Json text lines
-
 abbrev mutual
   -- the fleet prints this text; where it adds tables, each name stands for what one of its parts prints
   pub Prints : Fleet → Bytes → Type 0
-  Prints (of_files source apart settings options names) text = PrintsLines source (items_of apart settings) options names text
-  Prints (of_printed source options names parts) text = PrintsLines source Printed options names text
+  Prints (of_files source apart settings options names) text = MakesJson source (items_of apart settings) options names text
+  Prints (of_printed source options names parts) text = MakesJson source Printed options names text
       × ((texts : List Bytes) × AllZip (λ name held. source name ≡ Some held) names texts × PrintEach parts texts)
 
   pub PrintEach : Fleets → List Bytes → Type 0

@@ -1,6 +1,6 @@
 -- A page of files each of which is a run of its own.
-use Rattle.std.specs.Prelude.{◌≡◌, ◌⊎◌, false, nat_le, if◌then◌else◌, List, [], ◌∷◌, length, map, Result, MatchResult}
-use Rattle.span_tasks.specs.{Bytes, TooGreatFault, number_of, run_line, Unit, Input, Settings, ends_from, journal_in_turn, Holds, ShownRun, TakesRun, page_of_runs, FileRun, AddsFile, GathersFiles, IsSumOf, Halt, OfStop, StopsAfter, StopsAmong, Name, SourceBytes, PageView, Run, SpanTable, SummedTable, AllFit, json_fits, json_of, shown_table, Gathered, declared.pages.ShownFiles.ShownFiles}
+use Rattle.std.specs.Prelude.{◌≡◌, ◌⊎◌, false, nat_le, if◌then◌else◌, List, [], ◌∷◌, ◌++◌, length, map, Result, MatchResult}
+use Rattle.span_tasks.specs.{Bytes, TooGreatFault, number_of, run_line, Unit, Input, Settings, ends_from, journal_in_turn, Holds, ShownRun, TakesRun, page_of_runs, FileRun, AddsFile, GathersFiles, IsSumOf, Halt, OfStop, StopsAfter, StopsAmong, Name, SourceBytes, PageView, Run, SpanTable, SummedTable, AllFit, json_fits, json_of, shown_table, warning_lines, Gathered, Warnings.absent_lines, declared.pages.ShownFiles.ShownFiles}
 
 -- the run of a file alone, in which its items stand in their order, as a page shows it
 abbrev pub shown_alone : Settings → Input → ShownRun
@@ -18,13 +18,15 @@ asked_for view = IsSumOf view.options.of view.options.columns.items
 abbrev pub page_with : Unit → PageView → SpanTable → List ShownRun → Bytes
 page_with unit view table runs = page_of_runs unit view.labels.items (json_of unit view.options.shown table) runs
 
--- Each file was collected alone; the page of their runs, with the table of their sum, is printed, and their lines are said.
-pub record PrintsPage (source : SourceBytes) (names : List Name) (settings : Settings) (view : PageView) (text lines : Bytes) : Type 0 where
+-- Each file was collected alone; the page of their runs, with the table of their sum, is printed, their lines are said, and then
+-- warnings: of them, and of columns of the table that no span has.
+pub record PrintsPage (source : SourceBytes) (names : List Name) (settings : Settings) (view : PageView) (text lines warnings : Bytes) : Type 0 where
   pub summed : Gathered SummedTable
   pub sums : GathersFiles source names settings (asked_for view) summed
   pub fits : AllFit (shown_table view.options.shown summed.runs.table)
   pub page : text ≡ page_with settings.unit view summed.runs.table (shown_runs settings sums.files)
-  pub said : lines ≡ summed.lines.items
+  pub said : lines ≡ summed.said.lines.items
+  pub warned : warnings ≡ warning_lines summed.said.warnings.items ++ absent_lines view.options.columns.items (summed.runs.table ∷ [])
 
 -- the files were summed, and a number of the table has more than 64 bits, as the line says
 pub record HasTooGreat (source : SourceBytes) (names : List Name) (settings : Settings) (view : PageView) (lines : Bytes) : Type 0 where

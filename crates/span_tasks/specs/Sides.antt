@@ -1,7 +1,7 @@
 -- Tables as they are gathered: those of one side, or of two that are compared.
 use Rattle.std.specs.Prelude.{◌≡◌, ◌⊎◌, ⊤, Bool, true, false, List, [], ◌∷◌, ◌++◌, map, Option, MatchResult, Result}
 use Rattle.span_request.specs.declared.tasks.Items.TheVariants.{Apart as EachApart, Printed, Together}
-use Rattle.span_tasks.specs.{Bytes, AreSeparate, Settings, AreGathered, Halt, OfStop, StopsAmong, run_in_turn, run_of_files, table_of_run, SourceBytes, Name, PartSum, Column, Of, Number, Run, SpanTable, picked, table_of, Items, TableOptions, Added.{Adds, AddsBeside, AddsEach, AreOfFirst, AreTooMany, BeginsWith, StopsFirst, StopsNext}, Together.{EndsWell, StopsTogether}, declared.{printed.PrintedBase.PrintedBase, side.Side.Side, together.TogetherRun.TogetherRun}}
+use Rattle.span_tasks.specs.{Bytes, AreSeparate, Settings, warnings_of, AreGathered, Halt, OfStop, StopsAmong, run_in_turn, run_of_files, table_of_run, SourceBytes, Name, PartSum, Column, Of, Number, Run, SpanTable, picked, table_of, Items, TableOptions, Added.{Adds, AddsBeside, AddsEach, AreOfFirst, AreTooMany, BeginsWith, StopsFirst, StopsNext}, Together.{EndsWell, StopsTogether}, declared.{printed.PrintedBase.PrintedBase, side.Side.Side, together.TogetherRun.TogetherRun}}
 
 -- one table of all runs, or a table of each
 abbrev pub ComeTo : Bool → Of → List Column → List Run → List SpanTable → Type 0
@@ -46,7 +46,8 @@ pub record IsOfRun (source : SourceBytes) (names : List Name) (settings : Settin
   pub ended : EndsWell source names settings run
   pub is : side.tables.items ≡ table_of_run options.of options.columns.items (run_of_files run.inputs.items run.collected.end.ends.items run.collected.ledger.journal) ∷ []
   pub in_turn : AreSeparate settings.unit run.inputs.items → side.tables.items ≡ table_of_run options.of options.columns.items (run_in_turn settings run.inputs.items) ∷ []
-  pub said : side.lines.items ≡ run.lines.items
+  pub said : side.said.lines.items ≡ run.lines.items
+  pub warned : side.said.warnings.items ≡ warnings_of run.inputs.items run.collected.end.ends.items run.collected.ledger.journal
 
 -- the tables are of what is asked for
 pub record AreOptions (settings : Settings) (options : TableOptions) (side : Side) : Type 0 where
@@ -64,8 +65,8 @@ pub record AreOfParts (parts : PartSum) (side : Side) : Type 0 where
 abbrev pub IsSide : SourceBytes → Items → TableOptions → Bool → PartSum → List Name → Side → Type 0
 IsSide source (Together settings) options each parts names side = AreOptions settings options side × IsOfRun source names settings options side
 IsSide source (EachApart settings) options each parts names side = AreOptions settings options side
-    × AreGathered source names settings (λ runs. ComeTo each options.of options.columns.items runs side.tables.items) side.lines.items
-IsSide source Printed options each parts names side = AreOfParts parts side × AddTo each source parts names side.tables.items × (side.lines.items ≡ [])
+    × AreGathered source names settings (λ runs. ComeTo each options.of options.columns.items runs side.tables.items) side.said
+IsSide source Printed options each parts names side = AreOfParts parts side × AddTo each source parts names side.tables.items × (side.said.lines.items ≡ [])
 
 -- the first of printed tables is of this kind, and has the columns and the number that are asked for
 abbrev pub AreOfKind : SourceBytes → Items → TableOptions → Option Number → List Name → PartSum → Type 0
@@ -109,7 +110,7 @@ pub record StopsBehind (source : SourceBytes) (items : Items) (options : TableOp
   pub earlier : IsSide source items options each parts base_names base
   pub own : Bytes
   pub later : StopsSide source items each parts names own
-  pub said : lines ≡ base.lines.items ++ own
+  pub said : lines ≡ base.said.lines.items ++ own
 
 -- this is said where one of two sides gives no tables
 abbrev pub StopSides : SourceBytes → Items → TableOptions → Option Number → Bool → List Name → List Name → Bytes → Type 0

@@ -1,7 +1,7 @@
 -- What is printed of tables.
-use Rattle.std.specs.Prelude.{◌≡◌, ◌⊎◌, ◌≤◌, Bool, true, false, List, ◌∷◌, [], ◌++◌, length, Option}
+use Rattle.std.specs.Prelude.{◌≡◌, ◌⊎◌, ◌≤◌, Bool, true, false, List, ◌∷◌, [], ◌++◌, length, Option, None}
 use Rattle.span_request.specs.declared.tasks.{Items.TheVariants.{Together}, TableText.TheVariants.{Changes, Repetitions, Table}}
-use Rattle.span_tasks.specs.{Bytes, FileCountFault, TooGreatFault, number_of, run_line, Name, SourceBytes, changes_by, table_by, Number, SpanTable, ComparisonForm, Items, RepeatsForm, TableForm, TableOptions, TableText, Tabulation, Sides.{AreSides, IsOneSide, StopSides, StopsOneSide}, Texts.{IsTableText, TableExceeds, changes_fit, changes_text, repeats_fit, repeats_text}, declared.side.Side.Side}
+use Rattle.span_tasks.specs.{Bytes, FileCountFault, TooGreatFault, number_of, run_line, Unit, Name, SourceBytes, changes_by, table_by, Number, SpanTable, ComparisonForm, Items, RepeatsForm, TableForm, TableOptions, TableText, Tabulation, Sides.{AreSides, IsOneSide, StopSides, StopsOneSide}, Texts.{IsJson, IsTableText, TableExceeds, changes_fit, changes_text, repeats_fit, repeats_text}, Warnings.warned_of, declared.side.Side.Side}
 
 -- a head says how many runs there are, but that of one run
 abbrev pub says_runs : Items → Bool
@@ -38,32 +38,47 @@ pub record Repeated (source : SourceBytes) (items : Items) (options : TableOptio
   pub other : Side
   pub are : AreSides source items options by true base_names names base other
 
+-- what is warned of two sides
+abbrev pub warned_of_both : Items → Side → Side → Bytes
+warned_of_both items base other = warned_of items base.columns.items (base.tables.items ++ other.tables.items) (base.said.warnings.items ++ other.said.warnings.items)
+
 module _ (source : SourceBytes) (items : Items) (options : TableOptions) (names : List Name) where
+  -- this is the text of a table
+  pub record MakesText (by : Option Number) (Is : Unit → SpanTable → Bytes → Type 0) (text : Bytes) : Type 0 where
+    pub one : OneTable source items options by names
+    pub is : Is one.side.unit one.table text
+
+  -- these are its shown rows for other programs
+  abbrev pub MakesJson : Bytes → Type 0
+  MakesJson text = MakesText None (λ unit table. IsJson unit options.shown table) text
+
   -- a table is printed
-  pub record PrintsTable (form : TableForm) (text lines : Bytes) : Type 0 where
-    pub one : OneTable source items options (table_by form) names
-    pub is : IsTableText one.side.unit form options.shown (says_runs items) one.table text
-    pub said : lines ≡ one.side.lines.items
+  pub record PrintsTable (form : TableForm) (text lines warnings : Bytes) : Type 0 where
+    pub made : MakesText (table_by form) (λ unit table. IsTableText unit form options.shown (says_runs items) table) text
+    pub said : lines ≡ made.one.side.said.lines.items
+    pub warned : warnings ≡ warned_of items made.one.side.columns.items made.one.side.tables.items made.one.side.said.warnings.items
 
   -- what changed is printed
-  pub record PrintsChanges (form : ComparisonForm) (base_names : List Name) (text lines : Bytes) : Type 0 where
+  pub record PrintsChanges (form : ComparisonForm) (base_names : List Name) (text lines warnings : Bytes) : Type 0 where
     pub both : BothTables source items options (changes_by form) base_names names
     pub fits : changes_fit form options.shown both.earlier both.later ≡ true
     pub is : text ≡ changes_text both.base.unit form options.shown (says_runs items) both.earlier both.later
-    pub said : lines ≡ both.base.lines.items ++ both.other.lines.items
+    pub said : lines ≡ both.base.said.lines.items ++ both.other.said.lines.items
+    pub warned : warnings ≡ warned_of_both items both.base both.other
 
   -- how numbers are spread is printed
-  pub record PrintsRepetitions (by : Option Number) (form : RepeatsForm) (base_names : List Name) (text lines : Bytes) : Type 0 where
+  pub record PrintsRepetitions (by : Option Number) (form : RepeatsForm) (base_names : List Name) (text lines warnings : Bytes) : Type 0 where
     pub repeated : Repeated source items options by base_names names
     pub fits : repeats_fit repeated.base.of by form options.shown repeated.base.tables.items repeated.other.tables.items ≡ true
     pub is : text ≡ repeats_text repeated.base.unit repeated.base.of repeated.base.columns.items by form options.shown repeated.base.tables.items repeated.other.tables.items
-    pub said : lines ≡ repeated.base.lines.items ++ repeated.other.lines.items
+    pub said : lines ≡ repeated.base.said.lines.items ++ repeated.other.said.lines.items
+    pub warned : warnings ≡ warned_of_both items repeated.base repeated.other
 
-  -- the text that is asked for is printed, and these lines are said
-  abbrev pub PrintsText : TableText → Bytes → Bytes → Type 0
-  PrintsText (Table form) text lines = PrintsTable form text lines
-  PrintsText (Changes asked) text lines = PrintsChanges asked.form asked.base.items text lines
-  PrintsText (Repetitions asked) text lines = PrintsRepetitions asked.by asked.form asked.base.items text lines
+  -- the text that is asked for is printed, these lines are said, and these warnings
+  abbrev pub PrintsText : TableText → Bytes → Bytes → Bytes → Type 0
+  PrintsText (Table form) text lines warnings = PrintsTable form text lines warnings
+  PrintsText (Changes asked) text lines warnings = PrintsChanges asked.form asked.base.items text lines warnings
+  PrintsText (Repetitions asked) text lines warnings = PrintsRepetitions asked.by asked.form asked.base.items text lines warnings
 
   -- a number of the text, which is for other programs, has more than 64 bits
   abbrev pub HasTooGreat : TableText → Type 0
@@ -86,8 +101,8 @@ module _ (source : SourceBytes) (items : Items) (options : TableOptions) (names 
   abbrev pub StopsTabulation : TableText → Bytes → Type 0
   StopsTabulation asked lines = StopsText asked lines ⊎ (HasTooGreat asked × (lines ≡ run_line (number_of TooGreatFault)))
 
-abbrev pub Tabulates : SourceBytes → Tabulation → List Name → Bytes → Bytes → Type 0
-Tabulates source task names text lines = PrintsText source task.items task.options names task.text text lines
+abbrev pub Tabulates : SourceBytes → Tabulation → List Name → Bytes → Bytes → Bytes → Type 0
+Tabulates source task names text lines warnings = PrintsText source task.items task.options names task.text text lines warnings
 
 abbrev pub StopsTabulating : SourceBytes → Tabulation → List Name → Bytes → Type 0
 StopsTabulating source task names lines = StopsTabulation source task.items task.options names task.text lines

@@ -9,10 +9,14 @@ abbrev pub asked_by : Of → Option Number → Number
 asked_by of None = usual_by of
 asked_by of (Some by) = by
 
+-- the shown rows of a table as JSON Lines
+abbrev pub IsJson : Unit → Wanted → SpanTable → Bytes → Type 0
+IsJson unit shown table text = IsPrint unit text (shown_table shown table)
+
 -- the text of a table whose times are in this unit, and whose head says how many runs there are or doesn't
 abbrev pub IsTableText : Unit → TableForm → Wanted → Bool → SpanTable → Bytes → Type 0
 IsTableText unit (Ranking most by) shown says_runs table text = text ≡ ranking_of unit most (asked_by table.of by) shown says_runs table
-IsTableText unit Json shown says_runs table text = IsPrint unit text (shown_table shown table)
+IsTableText unit Json shown says_runs table text = IsJson unit shown table text
 
 -- a number for other programs has more than 64 bits; for people it may have any
 abbrev pub TableExceeds : TableForm → Wanted → SpanTable → Type 0

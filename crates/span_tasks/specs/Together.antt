@@ -1,7 +1,7 @@
 -- What is named, collected as one run, and what is printed of it.
-use Rattle.std.specs.Prelude.{◌≡◌, ◌<◌, ◌≤◌, ◌⊎◌, ⊤, false, List, [], Contains}
+use Rattle.std.specs.Prelude.{◌≡◌, ◌<◌, ◌≤◌, ◌⊎◌, ⊤, Bool, true, false, if◌then◌else◌, List, [], ◌∷◌, ◌++◌, Contains}
 use Rattle.span_request.specs.declared.views.View.{View, TheVariants.{Folded, Page, Refusals, Report}}
-use Rattle.span_tasks.specs.{Bytes, Entry, FileEnd, Input, Settings, RunError, StacksFault, TooGreatFault, number_of, report_of, refusals_of, most_names, folded_of, names_of, page_of, AreSeparate, IsNotCollected, SealedAccount, TextOf, run_code, status_of, text_in_turn, IsHint, fault_text, run_line, unread_line, AreInputs, SourceBytes, Name, printed, run_of_files, table_of_run, Unit, PageView, SpanTable, AllFit, json_fits, json_of, shown_table, declared.together.TogetherRun.TogetherRun}
+use Rattle.span_tasks.specs.{Bytes, Entry, FileEnd, Input, Settings, RunError, StacksFault, TooGreatFault, number_of, report_of, refusals_of, most_names, folded_of, names_of, page_of, AreSeparate, IsNotCollected, SealedAccount, TextOf, run_code, status_of, text_in_turn, IsHint, warning_lines, warnings_of, fault_text, run_line, unread_line, AreInputs, SourceBytes, Name, printed, run_of_files, table_of_run, Unit, PageView, SpanTable, AllFit, json_fits, json_of, shown_table, Warnings.absent_lines, declared.together.TogetherRun.TogetherRun}
 
 -- what is named was read and collected as one run, and a journal accounts for it
 pub record IsTogether (source : SourceBytes) (names : List Name) (settings : Settings) (run : TogetherRun) : Type 0 where
@@ -42,7 +42,7 @@ page_table view files ends journal = table_of_run view.options.of view.options.c
 
 -- this view of what was collected in this unit
 abbrev pub text_of : Unit → View → List Input → TextOf
-text_of unit Report files ends journal = report_of unit journal
+text_of unit (Report warns) files ends journal = report_of unit journal
 text_of unit Refusals files ends journal = refusals_of unit files ends journal
 text_of unit (Folded labels) files ends journal = folded_of labels.items journal
 text_of unit (Page view) files ends journal = page_of unit view.labels.items (json_of unit view.options.shown (page_table view files ends journal)) files ends journal
@@ -59,15 +59,28 @@ Exceeds (Folded labels) files ends journal lines = (most_names < names_of labels
 Exceeds (Page view) files ends journal lines = (json_fits view.options.shown (page_table view files ends journal) ≡ false) × (lines ≡ run_line (number_of TooGreatFault))
 Exceeds view files ends journal lines = ⊥
 
--- This view of what is named is printed, and these lines are said: those of files that are no trace. Of separate files it is the view
--- that they give where they are read in turn.
-pub record Collects (source : SourceBytes) (names : List Name) (settings : Settings) (view : View) (text lines : Bytes) : Type 0 where
+-- the lines of files of which events were refused, where these are warned of
+abbrev pub warned_if : Bool → List Input → List FileEnd → List Entry → Bytes
+warned_if warns files ends journal = if warns then warning_lines (warnings_of files ends journal) else []
+
+-- What is warned of behind a view: such files, and columns of a page's table that no span has. The report may do without, and the text
+-- of refusals says itself what was refused.
+abbrev pub warned_of_view : View → List Input → List FileEnd → List Entry → Bytes
+warned_of_view (Report warns) files ends journal = warned_if warns files ends journal
+warned_of_view Refusals files ends journal = []
+warned_of_view (Folded labels) files ends journal = warned_if true files ends journal
+warned_of_view (Page view) files ends journal = warned_if true files ends journal ++ absent_lines view.options.columns.items (page_table view files ends journal ∷ [])
+
+-- This view of what is named is printed, and these lines are said: those of files that are no trace, and then warnings. Of separate
+-- files it is the view that they give where they are read in turn.
+pub record Collects (source : SourceBytes) (names : List Name) (settings : Settings) (view : View) (text lines warnings : Bytes) : Type 0 where
   pub run : TogetherRun
   pub ended : EndsWell source names settings run
   pub fits : Fits view run.inputs.items run.collected.end.ends.items run.collected.ledger.journal
   pub is : text ≡ text_of settings.unit view run.inputs.items run.collected.end.ends.items run.collected.ledger.journal
   pub in_turn : AreSeparate settings.unit run.inputs.items → text ≡ text_in_turn (text_of settings.unit view run.inputs.items) run.inputs.items [] settings
   pub said : lines ≡ run.lines.items
+  pub warned : warnings ≡ warned_of_view view run.inputs.items run.collected.end.ends.items run.collected.ledger.journal
 
 -- the run ended well, and what is printed of it exceeds a bound
 pub record HasExceeded (source : SourceBytes) (names : List Name) (settings : Settings) (view : View) (lines : Bytes) : Type 0 where

@@ -16,6 +16,7 @@ mod sides;
 mod tabulation;
 mod texts;
 mod together;
+mod warnings;
 
 pub use files::{Files, Unwatched, Watcher};
 pub use outcome::{Lines, LinesTo, Outcome};

@@ -23,15 +23,18 @@ pub struct Outcome {
     pub output: Vec<u8>,
     /// The fault lines.
     pub lines: Vec<u8>,
+    /// Lines behind these that change no status.
+    pub warnings: Vec<u8>,
     /// What may help, for a person who reads the lines.
     pub hints: Vec<u8>,
 }
 
-/// A text, and the lines and hints that follow it.
+/// A text, and the lines, warnings and hints that follow it.
 #[derive(Drop)]
 pub(crate) struct Print {
     pub(crate) text: Vec<u8>,
     pub(crate) lines: Vec<u8>,
+    pub(crate) warnings: Vec<u8>,
     pub(crate) hints: Vec<u8>,
 }
 
@@ -55,6 +58,7 @@ impl Outcome {
             status: if print.lines.is_empty() { 0 } else { 1 },
             output: print.text,
             lines: print.lines,
+            warnings: print.warnings,
             hints: print.hints,
         }
     }
@@ -67,11 +71,12 @@ impl Outcome {
             status: FAILED,
             output: Vec::new(alloc),
             lines: stop.lines,
+            warnings: Vec::new(alloc),
             hints: stop.hints,
         }
     }
 
-    /// Writes the text, and then the lines; gives the status. Where the output fails, that is said in place of the lines.
+    /// Writes the text, and then the lines and warnings; gives the status. Where the output fails, that is said in place of the lines.
     pub(crate) fn deliver<O: Sink, L: Lines>(&self, out: &mut O, lines: &mut L) -> u8
         requires status { self.now.status ≤ 2 }
         requires hints { IsHint self.now.hints.items }
@@ -109,12 +114,14 @@ impl Outcome {
         write_bytes(&self.output, out)
     }
 
-    // Says the lines, and then hints where a person reads along.
+    // Says the lines and the warnings, and then hints where a person reads along.
     fn say<L: Lines>(&self, lines: &mut L)
         requires { IsHint self.now.hints.items }
-        ensures { SaysAndHints self.now.lines.items (L.state lines.old) (L.state lines.new) }
+        ensures { SaysAndHints self.now.lines.items self.now.warnings.items
+            (L.state lines.old) (L.state lines.new) }
     {
         say(&self.lines, lines);
+        say(&self.warnings, lines);
         say(self.hints_for(lines), lines);
     }
 

@@ -6,6 +6,7 @@ use crate::outcome::Print;
 use crate::place::Place;
 use crate::side::Apart;
 use crate::texts::{TableTexts, string_of};
+use crate::warnings::warned_of_page;
 use span_collect::Settings;
 use span_event::Unit;
 use span_names::HashKeys;
@@ -49,14 +50,18 @@ impl<'a, R: Threads + Wait + RandomSource + Sync, S: Source + Sync> Place<'a, R,
             Err(halt) => return Err(halt),
         };
         let ShownFiles { summed, page, .. } = shown;
-        let Gathered { runs: sum, lines } = summed;
+        let Gathered { runs: sum, said } = summed;
         let Ok(table) = sum.into_table() else {
+            return Err(Halt::Memory);
+        };
+        let Ok(warnings) = warned_of_page(self.alloc, view, &table, &said.warnings) else {
             return Err(Halt::Memory);
         };
         match self.text_of_runs(apart.settings.unit, view, table, page) {
             Ok(text) => Ok(Print {
                 text,
-                lines,
+                lines: said.lines,
+                warnings,
                 hints: Vec::new(self.alloc),
             }),
             Err(halt) => Err(halt),
@@ -122,7 +127,8 @@ impl<'a, R: Threads + Wait + RandomSource + Sync, S: Source + Sync> Place<'a, R,
 
     fn show_none(&self, view: &PageView) -> Result<ShownFiles, AllocError>
         ensures sum { IfOk result (λ none. asked_for view.now [] none.summed.runs) }
-        ensures lines { IfOk result (λ none. none.summed.lines.items ≡ []) }
+        ensures lines { IfOk result (λ none. none.summed.said.lines.items ≡ []) }
+        ensures warnings { IfOk result (λ none. none.summed.said.warnings.items ≡ []) }
         ensures runs { IfOk result (λ none. (unit : TheUnit)
             → Holds unit view.now.labels.items [] none.page) }
     {
@@ -149,7 +155,10 @@ impl<'a, R: Threads + Wait + RandomSource + Sync, S: Source + Sync> Place<'a, R,
         let ShownFiles { keys, summed, page } = shown;
         let taken = match collect_file(self.rt, self.alloc, self.source, name, settings) {
             Ok(taken) => taken,
-            Err(halt) => return Err(halt.after(summed.lines)),
+            Err(halt) => {
+                let Gathered { said, .. } = summed;
+                return Err(halt.after(said.lines));
+            }
         };
         let Ok(page) = self.with_run(settings.unit, view, page, &taken) else {
             return Err(Halt::Memory);

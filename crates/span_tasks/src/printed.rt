@@ -10,7 +10,7 @@ use crate::sides::{Sides, Wanted};
 use span_event::Fault;
 use span_names::HashKeys;
 use span_parts::Parts;
-use span_runs::{Halt, Name, Source};
+use span_runs::{Halt, Name, Said, Source};
 use span_table::{Table, copies_of};
 use std::alloc::{AllocError, Global};
 use std::random::RandomSource;
@@ -189,7 +189,7 @@ fn side_of_kind(alloc: Global, kind: &Parts, tables: Vec<Table>) -> Result<Side,
     ensures of { IfOk result (λ side. side.of ≡ kind.now.of) }
     ensures columns { IfOk result (λ side. side.columns.items ≡ kind.now.sum.columns) }
     ensures tables { IfOk result (λ side. side.tables ≡ tables) }
-    ensures lines { IfOk result (λ side. side.lines.items ≡ []) }
+    ensures lines { IfOk result (λ side. side.said.lines.items ≡ []) }
     ensures hints { IfOk result (λ side. side.hints.items ≡ []) }
 {
     Ok(Side {
@@ -197,7 +197,7 @@ fn side_of_kind(alloc: Global, kind: &Parts, tables: Vec<Table>) -> Result<Side,
         of: kind.kind(),
         columns: copies_of(alloc, kind.columns())?,
         tables,
-        lines: Vec::new(alloc),
+        said: Said::nothing(alloc),
         hints: Vec::new(alloc),
     })
 }

@@ -25,6 +25,7 @@ impl<'a, R: Threads + Wait + RandomSource + Sync, S: Source + Sync> Place<'a, R,
             Request::Show(text) => Ok(Outcome::printing(Print {
                 text: text.into_bytes(),
                 lines: Vec::new(alloc),
+                warnings: Vec::new(alloc),
                 hints: Vec::new(alloc),
             })),
             Request::Refuse(text) => Ok(Outcome::stopping(

@@ -1,14 +1,15 @@
 //! The tables of one side, as they are gathered.
-ghost use Rattle.std.specs.Prelude.{◌≡◌, ◌∷◌, ◌++◌, [], true, false, IfErr, IfOk};
+ghost use Rattle.std.specs.Prelude.{◌≡◌, ◌∷◌, ◌++◌, [], true, false, length, IfErr, IfOk};
 ghost use Rattle.span_runs.specs.declared.stop.Halt.TheVariants.{Memory};
-ghost use Rattle.span_tasks.specs.{AreGathered, GathersOrStops, IsHint, OfStop, StopsAmong, run_of_files, table_of_run, Sides.{AreOptions, ComeTo, IsOfRun}, Together.StopsTogether};
+ghost use Rattle.span_tasks.specs.{AreGathered, GathersOrStops, IsHint, OfStop, StopsAmong, run_of_files, table_of_run, warnings_of, Sides.{AreOptions, ComeTo, IsOfRun}, Together.StopsTogether};
 
 use crate::place::Place;
 use crate::together::TogetherRun;
 use span_collect::Settings;
+use span_collect::refusals::warnings_of;
 use span_event::Unit;
 use span_request::TableOptions;
-use span_runs::{Gathered, Gathering, Halt, Name, Source, Stop, gather_apart, table_of_run};
+use span_runs::{Gathered, Gathering, Halt, Name, Said, Source, Stop, gather_apart, table_of_run};
 use span_table::{Column, Of, Table, TableSum, copies_of};
 use std::alloc::{AllocError, Global};
 use std::random::RandomSource;
@@ -18,15 +19,14 @@ use std::thread::Threads;
 
 const MOST_JOBS: usize = 64;
 
-/// The tables of one side, in one unit, which sum the same by the same columns; and the lines and hints that follow what is printed of
-/// them.
+/// The tables of one side, in one unit, which sum the same by the same columns; and what is said behind what is printed of them.
 #[derive(Drop)]
 pub(crate) struct Side {
     pub(crate) unit: Unit,
     pub(crate) of: Of,
     pub(crate) columns: Vec<Column>,
     pub(crate) tables: Vec<Table>,
-    pub(crate) lines: Vec<u8>,
+    pub(crate) said: Said,
     pub(crate) hints: Vec<u8>,
 }
 
@@ -52,10 +52,15 @@ impl Side {
         requires mine { IsHint self.hints.items }
         requires its { IsHint stop.hints.items }
         ensures lines { IfOk result (λ both. both.lines.items
-            ≡ self.lines.items ++ stop.lines.items) }
+            ≡ self.said.lines.items ++ stop.lines.items) }
         ensures hints { IfOk result (λ both. IsHint both.hints.items) }
     {
-        let (mut lines, mut hints) = (self.lines, self.hints);
+        let Side {
+            said,
+            mut hints,
+            ..
+        } = self;
+        let mut lines = said.lines;
         lines.extend_from_slice(&stop.lines)?;
         hints.extend_from_slice(&stop.hints)?;
         Ok(Stop { lines, hints })
@@ -92,6 +97,7 @@ impl<'a, R: Threads + Wait + RandomSource + Sync, S: Source + Sync> Place<'a, R,
         options: &TableOptions,
         run: TogetherRun,
     ) -> Result<Side, AllocError>
+        requires { length run.inputs.items ≡ length run.collected.end.ends.items }
         ensures unit { IfOk result (λ side. side.unit ≡ unit) }
         ensures of { IfOk result (λ side. side.of ≡ options.now.of) }
         ensures columns { IfOk result (λ side. side.columns.items ≡ options.now.columns.items) }
@@ -99,7 +105,9 @@ impl<'a, R: Threads + Wait + RandomSource + Sync, S: Source + Sync> Place<'a, R,
             ≡ table_of_run options.now.of options.now.columns.items
             (run_of_files run.inputs.items run.collected.end.ends.items run.collected.ledger.journal)
             ∷ []) }
-        ensures lines { IfOk result (λ side. side.lines ≡ run.lines) }
+        ensures lines { IfOk result (λ side. side.said.lines ≡ run.lines) }
+        ensures warnings { IfOk result (λ side. side.said.warnings.items
+            ≡ warnings_of run.inputs.items run.collected.end.ends.items run.collected.ledger.journal) }
         ensures hints { IfOk result (λ side. side.hints ≡ run.hints) }
     {
         let (alloc, of, columns) = (self.alloc, options.of, &options.columns);
@@ -110,6 +118,7 @@ impl<'a, R: Threads + Wait + RandomSource + Sync, S: Source + Sync> Place<'a, R,
             hints,
         } = run;
         let table = table_of_run(self.rt, alloc, of, columns, &inputs, &collected)?;
+        let warnings = warnings_of(alloc, &collected.ledger, &inputs, &collected.end.ends)?;
         drop(inputs);
         self.let_go(collected);
         Ok(Side {
@@ -117,7 +126,7 @@ impl<'a, R: Threads + Wait + RandomSource + Sync, S: Source + Sync> Place<'a, R,
             of,
             columns: copies_of(alloc, columns)?,
             tables: only(alloc, table)?,
-            lines,
+            said: Said { lines, warnings },
             hints,
         })
     }
@@ -132,7 +141,7 @@ impl<'a, R: Threads + Wait + RandomSource + Sync, S: Source + Sync> Place<'a, R,
         ensures side { IfOk result (λ side. AreOptions apart.now.settings options.now side
             × AreGathered (S.bytes self.now.source.now) names.now apart.now.settings
             (λ runs. ComeTo false options.now.of options.now.columns.items runs side.tables.items)
-            side.lines.items) }
+            side.said) }
         ensures hints { IfOk result (λ side. IsHint side.hints.items) }
         ensures stop { IfErr result
             (OfStop (StopsAmong (S.bytes self.now.source.now) apart.now.settings names.now)) }
@@ -141,14 +150,14 @@ impl<'a, R: Threads + Wait + RandomSource + Sync, S: Source + Sync> Place<'a, R,
             Ok(summed) => summed,
             Err(halt) => return Err(halt),
         };
-        let Gathered { runs: sum, lines } = summed;
+        let Gathered { runs: sum, said } = summed;
         let Ok(table) = sum.into_table() else {
             return Err(Halt::Memory);
         };
         let Ok(tables) = only(self.alloc, table) else {
             return Err(Halt::Memory);
         };
-        self.side_of(apart.settings.unit, options, tables, lines)
+        self.side_of(apart.settings.unit, options, tables, said)
     }
 
     /// The table of each of the files, which are runs of their own.
@@ -161,7 +170,7 @@ impl<'a, R: Threads + Wait + RandomSource + Sync, S: Source + Sync> Place<'a, R,
         ensures side { IfOk result (λ side. AreOptions apart.now.settings options.now side
             × AreGathered (S.bytes self.now.source.now) names.now apart.now.settings
             (λ runs. ComeTo true options.now.of options.now.columns.items runs side.tables.items)
-            side.lines.items) }
+            side.said) }
         ensures hints { IfOk result (λ side. IsHint side.hints.items) }
         ensures stop { IfErr result
             (OfStop (StopsAmong (S.bytes self.now.source.now) apart.now.settings names.now)) }
@@ -170,11 +179,8 @@ impl<'a, R: Threads + Wait + RandomSource + Sync, S: Source + Sync> Place<'a, R,
             Ok(tables) => tables,
             Err(halt) => return Err(halt),
         };
-        let Gathered {
-            runs: tables,
-            lines,
-        } = tables;
-        self.side_of(apart.settings.unit, options, tables, lines)
+        let Gathered { runs: tables, said } = tables;
+        self.side_of(apart.settings.unit, options, tables, said)
     }
 
     fn side_of(
@@ -182,13 +188,13 @@ impl<'a, R: Threads + Wait + RandomSource + Sync, S: Source + Sync> Place<'a, R,
         unit: Unit,
         options: &TableOptions,
         tables: Vec<Table>,
-        lines: Vec<u8>,
+        said: Said,
     ) -> Result<Side, Halt>
         ensures unit { IfOk result (λ side. side.unit ≡ unit) }
         ensures of { IfOk result (λ side. side.of ≡ options.now.of) }
         ensures columns { IfOk result (λ side. side.columns.items ≡ options.now.columns.items) }
         ensures tables { IfOk result (λ side. side.tables ≡ tables) }
-        ensures lines { IfOk result (λ side. side.lines ≡ lines) }
+        ensures said { IfOk result (λ side. side.said ≡ said) }
         ensures hints { IfOk result (λ side. side.hints.items ≡ []) }
         ensures memory { IfErr result (λ halt. halt ≡ Memory) }
     {
@@ -200,7 +206,7 @@ impl<'a, R: Threads + Wait + RandomSource + Sync, S: Source + Sync> Place<'a, R,
             of: options.of,
             columns,
             tables,
-            lines,
+            said,
             hints: Vec::new(self.alloc),
         })
     }

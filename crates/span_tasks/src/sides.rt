@@ -59,7 +59,7 @@ impl<'a, R: Threads + Wait + RandomSource + Sync, S: Source + Sync> Place<'a, R,
         ensures side { IfOk result (λ side. AreOptions settings wanted.entry.options.now side
             × AreGathered (S.bytes self.now.source.now) names.now settings
             (λ runs. ComeTo wanted.entry.each wanted.entry.options.now.of
-            wanted.entry.options.now.columns.items runs side.tables.items) side.lines.items) }
+            wanted.entry.options.now.columns.items runs side.tables.items) side.said) }
         ensures hints { IfOk result (λ side. IsHint side.hints.items) }
         ensures stop { IfErr result
             (OfStop (StopsAmong (S.bytes self.now.source.now) settings names.now)) }

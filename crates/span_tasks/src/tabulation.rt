@@ -2,18 +2,19 @@
 ghost use Rattle.std.specs.Prelude.{◌≡◌, ◌≤◌, ◌↔◌, ◌∷◌, ◌++◌, [], true, false, IsTrue, IfErr, IfOk, IfSome, length};
 ghost use Rattle.span_request.specs.declared.tasks.TableText.TheVariants.{Changes as OfChanges, Repetitions as OfRepetitions, Table as OfTable};
 ghost use Rattle.span_runs.specs.declared.stop.Halt.TheVariants.{Memory};
-ghost use Rattle.span_tasks.specs.{IsHint, OfStop, SpanTable, TooGreatFault, number_of, run_line, Outcome.PrintsOrStops, Tabulations.{AreFew, PrintsText, StopsTabulating, StopsTabulation, Tabulates, says_runs}, Texts.{IsTableText, TableExceeds, changes_fit, changes_text}};
+ghost use Rattle.span_tasks.specs.{IsHint, OfStop, SpanTable, TooGreatFault, number_of, run_line, Outcome.PrintsOrStops, Tabulations.{AreFew, PrintsText, StopsTabulating, StopsTabulation, Tabulates, says_runs, warned_of_both}, Warnings.warned_of, Texts.{IsTableText, TableExceeds, changes_fit, changes_text}};
 
 use crate::outcome::Print;
 use crate::place::Place;
 use crate::side::Side;
 use crate::sides::{Sides, Wanted};
 use crate::texts::TableTexts;
+use crate::warnings::Tabled;
 use span_event::{Fault, Unit};
 use span_request::{Changes, ComparisonForm, Items, Repetitions, TableForm, TableText, Tabulation};
 use span_runs::{Halt, Name, Source};
 use span_table::Table;
-use std::alloc::{AllocError, Global};
+use std::alloc::Global;
 use std::random::RandomSource;
 use std::sync::Wait;
 use std::thread::Threads;
@@ -56,14 +57,10 @@ impl<'a, R: Threads + Wait + RandomSource + Sync, S: Source + Sync> Place<'a, R,
             Ok(text) => text,
             Err(halt) => return Err(halt),
         };
-        let Side {
-            tables,
-            lines,
-            hints,
-            ..
-        } = side;
-        self.let_go(tables);
-        Ok(Print { text, lines, hints })
+        match self.print_of_side(task.items, side, text) {
+            Ok(print) => Ok(print),
+            Err(halt) => Err(halt),
+        }
     }
 
     fn print_changes(
@@ -93,7 +90,7 @@ impl<'a, R: Threads + Wait + RandomSource + Sync, S: Source + Sync> Place<'a, R,
             Ok(text) => text,
             Err(halt) => return Err(halt),
         };
-        match self.print_of(sides, text) {
+        match self.print_of_sides(task.items, sides, text) {
             Ok(print) => Ok(print),
             Err(halt) => Err(halt),
         }
@@ -130,7 +127,7 @@ impl<'a, R: Threads + Wait + RandomSource + Sync, S: Source + Sync> Place<'a, R,
             Ok(text) => text,
             Err(halt) => return Err(halt),
         };
-        match self.print_of(sides, text) {
+        match self.print_of_sides(task.items, sides, text) {
             Ok(print) => Ok(print),
             Err(halt) => Err(halt),
         }
@@ -144,36 +141,79 @@ impl<'a, R: Threads + Wait + RandomSource + Sync, S: Source + Sync> Place<'a, R,
         }
     }
 
-    // A text of two sides, with the lines of both behind it.
-    fn print_of(&self, sides: Sides, text: Vec<u8>) -> Result<Print, Halt>
+    // A text of one side, with what is said of it behind.
+    fn print_of_side(&self, items: Items, side: Side, text: Vec<u8>) -> Result<Print, Halt>
+        requires { IsHint side.hints.items }
+        ensures text { IfOk result (λ print. print.text ≡ text) }
+        ensures lines { IfOk result (λ print. print.lines.items ≡ side.said.lines.items) }
+        ensures warnings { IfOk result (λ print. print.warnings.items
+            ≡ warned_of items side.columns.items side.tables.items side.said.warnings.items) }
+        ensures hints { IfOk result (λ print. IsHint print.hints.items) }
+        ensures memory { IfErr result (λ halt. halt ≡ Memory) }
+    {
+        let tabled = Tabled {
+            columns: &side.columns,
+            tables: &side.tables,
+            more: &[],
+        };
+        let Ok(warnings) = tabled.warned(self.alloc, items, &side.said.warnings) else {
+            return Err(Halt::Memory);
+        };
+        let Side {
+            tables,
+            said,
+            hints,
+            ..
+        } = side;
+        self.let_go(tables);
+        Ok(Print {
+            text,
+            lines: said.lines,
+            warnings,
+            hints,
+        })
+    }
+
+    // A text of two sides, with what is said of both behind it.
+    fn print_of_sides(&self, items: Items, sides: Sides, text: Vec<u8>) -> Result<Print, Halt>
         requires base { IsHint sides.base.hints.items }
         requires other { IsHint sides.other.hints.items }
         ensures text { IfOk result (λ print. print.text ≡ text) }
         ensures lines { IfOk result (λ print. print.lines.items
-            ≡ sides.base.lines.items ++ sides.other.lines.items) }
+            ≡ sides.base.said.lines.items ++ sides.other.said.lines.items) }
+        ensures warnings { IfOk result (λ print. print.warnings.items
+            ≡ warned_of_both items sides.base sides.other) }
         ensures hints { IfOk result (λ print. IsHint print.hints.items) }
         ensures memory { IfErr result (λ halt. halt ≡ Memory) }
     {
         let Sides { base, other } = sides;
-        self.let_go(base.tables);
+        let Side {
+            columns,
+            tables,
+            said,
+            hints,
+            ..
+        } = base;
+        let Ok(said) = said.with(other.said) else {
+            return Err(Halt::Memory);
+        };
+        let tabled = Tabled {
+            columns: &columns,
+            tables: &tables,
+            more: &other.tables,
+        };
+        let Ok(warnings) = tabled.warned(self.alloc, items, &said.warnings) else {
+            return Err(Halt::Memory);
+        };
+        self.let_go(tables);
         self.let_go(other.tables);
-        match joined(base.lines, &other.lines) {
-            Ok(lines) => Ok(Print {
-                text,
-                lines,
-                hints: with_hints(base.hints, &other.hints),
-            }),
-            Err(_) => Err(Halt::Memory),
-        }
+        Ok(Print {
+            text,
+            lines: said.lines,
+            warnings,
+            hints: with_hints(hints, &other.hints),
+        })
     }
-}
-
-fn joined(lines: Vec<u8>, more: &[u8]) -> Result<Vec<u8>, AllocError>
-    ensures { IfOk result (λ both. both.items ≡ lines.items ++ more.now) }
-{
-    let mut both = lines;
-    both.extend_from_slice(more)?;
-    Ok(both)
 }
 
 // Hints for which there is no memory are left out.

@@ -1,16 +1,18 @@
 //! What is named, collected as one run, and what is printed of it.
 ghost use Rattle.std.specs.Prelude.{◌≡◌, length, Contains, IfErr, IfOk};
-ghost use Rattle.span_tasks.specs.{Name as TheName, AreInputs, IsHint, OfStop, StacksFault as StacksTooLarge, number_of, fault_text, printed, run_line, run_code, unread_line, Outcome.PrintsOrStops, Together.{Collects, EndsWell, Exceeds, Fits, StopsCollecting, StopsTogether, text_of}};
+ghost use Rattle.span_tasks.specs.{Name as TheName, AreInputs, IsHint, OfStop, StacksFault as StacksTooLarge, number_of, fault_text, printed, run_line, run_code, unread_line, Outcome.PrintsOrStops, Together.{Collects, EndsWell, Exceeds, Fits, StopsCollecting, StopsTogether, text_of, warned_if, warned_of_view}};
+ghost use Rattle.span_runs.specs.declared.stop.Halt.TheVariants.{Memory as OutOfMemory};
 ghost use Rattle.span_report.specs.declared.stacks.fault.StacksFault.TheVariants.{TooLarge};
 ghost use Rattle.span_request.specs.declared.views.View.TheVariants.{Page as OfPage};
 
 use crate::outcome::Print;
 use crate::place::Place;
 use crate::texts::{TableTexts, string_of};
-use span_collect::refusals::refusals;
+use crate::warnings::warned_of_page;
+use span_collect::refusals::{refusals, warnings_of};
 use span_collect::{Collected, Input, RunError, Settings, collect_to_ledger};
 use span_event::{Fault, Unit};
-use span_faults::{fault_text, hints_of, many_files};
+use span_faults::{fault_text, hints_of, many_files, warning_lines};
 use span_page::page;
 use span_report::report;
 use span_report::stacks::{StacksFault, folded};
@@ -30,6 +32,13 @@ pub(crate) struct TogetherRun {
     pub(crate) hints: Vec<u8>,
 }
 
+/// The text of a view, and what is warned of behind it.
+#[derive(Drop)]
+struct Made {
+    text: Vec<u8>,
+    warnings: Vec<u8>,
+}
+
 impl<'a, R: Threads + Wait + RandomSource + Sync, S: Source + Sync> Place<'a, R, S> {
     /// What is printed of what is named, as one run.
     pub(crate) fn print_view(
@@ -46,7 +55,7 @@ impl<'a, R: Threads + Wait + RandomSource + Sync, S: Source + Sync> Place<'a, R,
             Ok(run) => run,
             Err(halt) => return Err(halt),
         };
-        let made = self.text_of_view(settings.unit, view, &run.inputs, &run.collected);
+        let made = self.made_of_view(settings.unit, view, &run.inputs, &run.collected);
         let TogetherRun {
             inputs,
             collected,
@@ -56,7 +65,12 @@ impl<'a, R: Threads + Wait + RandomSource + Sync, S: Source + Sync> Place<'a, R,
         drop(inputs);
         self.let_go(collected);
         match made {
-            Ok(text) => Ok(Print { text, lines, hints }),
+            Ok(Made { text, warnings }) => Ok(Print {
+                text,
+                lines,
+                warnings,
+                hints,
+            }),
             Err(halt) => Err(halt),
         }
     }
@@ -128,66 +142,70 @@ impl<'a, R: Threads + Wait + RandomSource + Sync, S: Source + Sync> Place<'a, R,
         }
     }
 
-    // The text of this view of a run.
-    fn text_of_view(
+    // The text of this view of a run, and what is warned of behind it.
+    fn made_of_view(
         &self,
         unit: Unit,
         view: &View,
         files: &[Input],
         collected: &Collected,
-    ) -> Result<Vec<u8>, Halt>
+    ) -> Result<Made, Halt>
         requires { length files.now ≡ length collected.now.end.ends.items }
-        ensures text { IfOk result (λ text. text.items ≡ text_of unit view.now files.now
+        ensures text { IfOk result (λ made. made.text.items ≡ text_of unit view.now files.now
             collected.now.end.ends.items collected.now.ledger.journal) }
-        ensures fits { IfOk result (λ text. Fits view.now files.now
+        ensures warnings { IfOk result (λ made. made.warnings.items ≡ warned_of_view view.now
+            files.now collected.now.end.ends.items collected.now.ledger.journal) }
+        ensures fits { IfOk result (λ made. Fits view.now files.now
             collected.now.end.ends.items collected.now.ledger.journal) }
         ensures stop { IfErr result (OfStop (Exceeds view.now files.now
             collected.now.end.ends.items collected.now.ledger.journal)) }
     {
         let ledger = &collected.ledger;
         match view {
-            View::Report => match report(self.alloc, unit, ledger) {
-                Ok(text) => Ok(text),
+            View::Report { warns } => match report(self.alloc, unit, ledger) {
+                Ok(text) => made_with(self.alloc, text, *warns, files, collected),
                 Err(_) => Err(Halt::Memory),
             },
             View::Refusals => {
                 match refusals(self.alloc, unit, ledger, files, &collected.end.ends) {
-                    Ok(text) => Ok(text),
+                    Ok(text) => made_with(self.alloc, text, false, files, collected),
                     Err(_) => Err(Halt::Memory),
                 }
             }
             View::Folded(labels) => match folded(self.alloc, ledger, labels) {
-                Ok(text) => Ok(text),
+                Ok(text) => made_with(self.alloc, text, true, files, collected),
                 Err(fault) => Err(halt_of_stacks(self.alloc, fault)),
             },
-            View::Page(page) => self.text_of_page(unit, page, files, collected),
+            View::Page(page) => self.made_of_page(unit, page, files, collected),
         }
     }
 
-    fn text_of_page(
+    fn made_of_page(
         &self,
         unit: Unit,
         view: &PageView,
         files: &[Input],
         collected: &Collected,
-    ) -> Result<Vec<u8>, Halt>
+    ) -> Result<Made, Halt>
         requires { length files.now ≡ length collected.now.end.ends.items }
-        ensures text { IfOk result (λ text. text.items ≡ text_of unit (OfPage view.now) files.now
-            collected.now.end.ends.items collected.now.ledger.journal) }
-        ensures fits { IfOk result (λ text. Fits (OfPage view.now) files.now
+        ensures text { IfOk result (λ made. made.text.items ≡ text_of unit (OfPage view.now)
+            files.now collected.now.end.ends.items collected.now.ledger.journal) }
+        ensures warnings { IfOk result (λ made. made.warnings.items
+            ≡ warned_of_view (OfPage view.now) files.now collected.now.end.ends.items collected.now.ledger.journal) }
+        ensures fits { IfOk result (λ made. Fits (OfPage view.now) files.now
             collected.now.end.ends.items collected.now.ledger.journal) }
         ensures stop { IfErr result (OfStop (Exceeds (OfPage view.now) files.now
             collected.now.end.ends.items collected.now.ledger.journal)) }
     {
-        let (alloc, options) = (self.alloc, &view.options);
-        let Ok(table) = table_of_run(
-            self.rt,
-            alloc,
-            options.of,
-            &options.columns,
-            files,
-            collected,
-        ) else {
+        let (alloc, options, ends) = (self.alloc, &view.options, &collected.end.ends);
+        let (of, columns) = (options.of, &options.columns);
+        let Ok(table) = table_of_run(self.rt, alloc, of, columns, files, collected) else {
+            return Err(Halt::Memory);
+        };
+        let Ok(refused) = warnings_of(alloc, &collected.ledger, files, ends) else {
+            return Err(Halt::Memory);
+        };
+        let Ok(warnings) = warned_of_page(alloc, view, &table, &refused) else {
             return Err(Halt::Memory);
         };
         let texts = TableTexts {
@@ -204,19 +222,41 @@ impl<'a, R: Threads + Wait + RandomSource + Sync, S: Source + Sync> Place<'a, R,
         let Ok(text) = string_of(text) else {
             return Err(Halt::Memory);
         };
-        let ends = &collected.end.ends;
-        match page(
-            alloc,
-            unit,
-            &collected.ledger,
-            files,
-            ends,
-            &view.labels,
-            text,
-        ) {
-            Ok(page) => Ok(page),
+        let (ledger, labels) = (&collected.ledger, &view.labels);
+        match page(alloc, unit, ledger, files, ends, labels, text) {
+            Ok(text) => Ok(Made { text, warnings }),
             Err(_) => Err(Halt::Memory),
         }
+    }
+}
+
+// A text, with warnings of the files behind it where they are wanted.
+fn made_with(
+    alloc: Global,
+    text: Vec<u8>,
+    warns: bool,
+    files: &[Input],
+    collected: &Collected,
+) -> Result<Made, Halt>
+    requires { length files.now ≡ length collected.now.end.ends.items }
+    ensures text { IfOk result (λ made. made.text ≡ text) }
+    ensures warnings { IfOk result (λ made. made.warnings.items ≡ warned_if warns files.now
+        collected.now.end.ends.items collected.now.ledger.journal) }
+    ensures memory { IfErr result (λ halt. halt ≡ OutOfMemory) }
+{
+    if !warns {
+        let warnings = Vec::new(alloc);
+        return Ok(Made { text, warnings });
+    }
+    let Ok(refused) = warnings_of(alloc, &collected.ledger, files, &collected.end.ends) else {
+        return Err(Halt::Memory);
+    };
+    match warning_lines(alloc, &refused) {
+        Ok(lines) => Ok(Made {
+            text,
+            warnings: lines.into_bytes(),
+        }),
+        Err(_) => Err(Halt::Memory),
     }
 }
 

@@ -6,7 +6,7 @@ use Rattle.span_runs.proofs.apart.gather_in_job.Goals as goal
 -- no file is gathered
 pub loop-name-init : goal.loop-name-init
 loop-name-init g c =
-    AreGathered-none (g.S.Source.bytes c.args.work.now.source.now) c.args.work.now.settings (λ runs. g.T.Gathering.come_to c.args.work.now.of c.args.work.now.columns.now runs c.in-Ok.none.runs) c.in-Ok.none.lines.items c.in-Ok.ensures.runs c.in-Ok.ensures.lines
+    AreGathered-none (g.S.Source.bytes c.args.work.now.source.now) c.args.work.now.settings (λ runs. g.T.Gathering.come_to c.args.work.now.of c.args.work.now.columns.now runs c.in-Ok.none.runs) c.in-Ok.none.said c.in-Ok.ensures.runs c.in-Ok.ensures.lines c.in-Ok.ensures.warnings
 
 -- the next one is
 pub loop-name-preserved : goal.loop-name-preserved

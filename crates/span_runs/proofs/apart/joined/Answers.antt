@@ -7,7 +7,7 @@ use Rattle.span_runs.proofs.apart.joined.Goals as goal
 pub returns-in-Ok-joined : goal.returns-in-Ok-joined
 returns-in-Ok-joined g c = λ source names more settings of columns one other.
     AreGathered-append source names more settings (g.T.Gathering.come_to of columns) c.in-Ok.first c.in-Ok-second.second c.in-Ok-joined.both
-    (rw c.in-Ok.is at one) (rw c.in-Ok-second.is at other) (c.in-Ok-joined.ensures.runs of columns) c.in-Ok-joined.ensures.lines
+    (rw c.in-Ok.is at one) (rw c.in-Ok-second.is at other) (c.in-Ok-joined.ensures.runs of columns) c.in-Ok-joined.ensures.said
 
 -- the first stopped
 pub returns-in-Err : goal.returns-in-Err
@@ -17,7 +17,7 @@ returns-in-Err g c = λ source names more settings of columns one other.
 -- the second stopped
 pub returns-in-Err-second : goal.returns-in-Err-second
 returns-in-Err-second g c = λ source names more settings of columns one other.
-    OfStop-after (StopsAmong source settings more) (StopsAmong source settings (names ++ more)) c.in-Ok.first.lines.items
+    OfStop-after (StopsAmong source settings more) (StopsAmong source settings (names ++ more)) c.in-Ok.first.said.lines.items
     (StopsAmong-after source settings names more (g.T.Gathering.come_to of columns) c.in-Ok.first (rw c.in-Ok.is at one))
     c.in-Err-second.halt c.after.result c.after.ensures (rw c.in-Err-second.is at other)
 

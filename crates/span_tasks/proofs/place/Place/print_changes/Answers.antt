@@ -23,11 +23,11 @@ returns-in-Err-text_of_changes g c =
     )) c.in-Err-text_of_changes.halt c.in-Err-text_of_changes.ensures.stop
 
 -- what changed is printed
-pub returns-in-Ok-print_of : goal.returns-in-Ok-print_of
-returns-in-Ok-print_of g c =
+pub returns-in-Ok-print_of_sides : goal.returns-in-Ok-print_of_sides
+returns-in-Ok-print_of_sides g c =
     let sides = c.in-Ok.sides in
     let text = c.in-Ok-text_of_changes.ensures.text in
-    let print = c.in-Ok-print_of.ensures in (
+    let print = c.in-Ok-print_of_sides.ensures in (
       print.hints,
       record {
         both = record {
@@ -42,5 +42,6 @@ returns-in-Ok-print_of g c =
         fits = text.4;
         is = ap (λ bytes. bytes.items) print.text ∙ text.5;
         said = print.lines;
+        warned = print.warnings;
       },
     )

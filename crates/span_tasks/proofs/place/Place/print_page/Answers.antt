@@ -1,6 +1,6 @@
-use Rattle.std.proofs.Common.{◌≡◌, false, inl, inr, refl, subst, ap, ◌∙◌}
+use Rattle.std.proofs.Common.{◌≡◌, ◌++◌, ◌∷◌, [], false, inl, inr, refl, subst, ap, ◌∙◌}
 use Rattle.span_runs.proofs.Stopping.{OfStop-weaker}
-use Rattle.span_tasks.specs.{AllFit, json_fits, shown_table, Pages.{page_with, shown_runs}}
+use Rattle.span_tasks.specs.{AllFit, SpanTable, json_fits, shown_table, warning_lines, Warnings.absent_lines, Pages.{page_with, shown_runs}}
 use Rattle.span_tasks.proofs.place.Place.print_page.Goals as goal
 
 -- the page is printed
@@ -18,6 +18,7 @@ returns-in-Ok-text_of_runs g c =
         fits = subst (λ table. AllFit (shown_table view.options.shown table)) c.in-Ok-into_table.ensures c.in-Ok-text_of_runs.ensures.fits;
         page = c.in-Ok-text_of_runs.ensures.text runs held.runs ∙ ap (λ table. page_with settings.unit view table runs) c.in-Ok-into_table.ensures;
         said = refl;
+        warned = (rw c.deref.ensures.value at c.in-Ok-warned_of_page.ensures) ∙ ap (λ (table : SpanTable). warning_lines shown.summed.said.warnings.items ++ absent_lines view.options.columns.items (table ∷ [])) c.in-Ok-into_table.ensures;
       },
     )
 

@@ -34,16 +34,17 @@ returns-in-Err-repetitions g c =
     )) c.in-Err-repetitions.halt (rw c.texts_of-texts.ensures.shown at c.in-Err-repetitions.ensures.stop)
 
 -- how numbers are spread is printed
-pub returns-in-Ok-print_of : goal.returns-in-Ok-print_of
-returns-in-Ok-print_of g c =
+pub returns-in-Ok-print_of_sides : goal.returns-in-Ok-print_of_sides
+returns-in-Ok-print_of_sides g c =
     let few = rw c.deref.ensures.value at (c.are_few.ensures.0 c.if-not-are_few.false) in
     let texts = c.texts_of-texts.ensures in
-    let print = c.in-Ok-print_of.ensures in (
+    let print = c.in-Ok-print_of_sides.ensures in (
       print.hints,
       record {
         repeated = record { few = few; base = c.in-Ok.sides.base; other = c.in-Ok.sides.other; are = rw c.deref-2.ensures.value at c.in-Ok.ensures.sides };
         fits = rw texts.shown at c.in-Ok-repetitions.ensures.fits;
         is = ap (λ bytes. bytes.items) print.text ∙ (rw (texts.unit, texts.shown) at c.in-Ok-repetitions.ensures.text);
         said = print.lines;
+        warned = print.warnings;
       },
     )

@@ -4,8 +4,8 @@ use Rattle.span_tasks.proofs.InTurn.{text_of-in_turn}
 use Rattle.span_tasks.proofs.place.Place.print_view.Goals as goal
 
 -- there is one end for each file
-pub text_of_view-made-requires-after_bounds : goal.text_of_view-made-requires-after_bounds
-text_of_view-made-requires-after_bounds g c κs bounds =
+pub made_of_view-made-requires-after_bounds : goal.made_of_view-made-requires-after_bounds
+made_of_view-made-requires-after_bounds g c κs bounds =
     let run = c.in-Ok.run' in
     ap length c.deref.ensures.value ∙ sym (AllZip-long _ run.inputs.items run.collected.end.ends.items c.in-Ok.ensures.run.is.account.account.each_file_once_in_order)
 
@@ -25,6 +25,7 @@ returns-in-Ok-made g c =
         in_turn = λ separate. is ∙ text_of-in_turn run.inputs.items settings run.collected.end.ends.items run.collected.end.asked run.collected.end.sealing run.collected.ledger.journal
             ended.is.account separate (rw ended.is.status at ended.below) c.args.view.now;
         said = refl;
+        warned = rw c.deref.ensures.value at c.in-Ok-made.ensures.warnings;
       },
     )
 

@@ -13,7 +13,7 @@ returns-in-Ok-with_run-2 g c =
     let view = c.args.view.now in
     let taken = c.in-Ok.taken in
     let old = c.args.shown in record {
-      adds = AddsFile-run source name settings (asked_for view) taken old.summed c.in-Ok-with_run-2.summed c.in-Ok.ensures.collected (rw c.deref.ensures.value at c.in-Ok-with_run-2.ensures.runs) c.in-Ok-with_run-2.ensures.lines;
+      adds = AddsFile-run source name settings (asked_for view) taken old.summed c.in-Ok-with_run-2.summed c.in-Ok.ensures.collected (rw c.deref.ensures.value at c.in-Ok-with_run-2.ensures.runs) c.in-Ok-with_run-2.ensures.said;
       page = TakesRun-alone view.labels.items source name settings taken old.page c.in-Ok-with_run.page c.in-Ok.ensures.collected c.in-Ok-with_run.ensures;
     }
 

@@ -7,7 +7,7 @@ use Rattle.span_tasks.proofs.place.Place.show_in_turn.Goals as goal
 -- no file is held
 pub loop-name-init : goal.loop-name-init
 loop-name-init g c =
-    AreHeld-none (g.S.Source.bytes c.args.self.now.source.now) c.args.settings.now c.args.view.now c.in-Ok.none c.in-Ok.ensures.sum c.in-Ok.ensures.lines (c.in-Ok.ensures.runs c.args.settings.now.unit)
+    AreHeld-none (g.S.Source.bytes c.args.self.now.source.now) c.args.settings.now c.args.view.now c.in-Ok.none c.in-Ok.ensures.sum c.in-Ok.ensures.lines c.in-Ok.ensures.warnings (c.in-Ok.ensures.runs c.args.settings.now.unit)
 
 -- all are
 pub returns-clause-shown : goal.returns-clause-shown
