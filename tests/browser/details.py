@@ -15,16 +15,16 @@ DETAILED = [
     detailed(1, "Odd", 130, 2, ""),
     detailed(2, "Source", 0, 25, "b.h"), detailed(2, "Read", 30, 20, LONG), detailed(2, "Read", 50, 15, RIGHT),
 ]
-# Name, detail, self, share of the busy time of both threads, total and count.
-A_ROW = ["Source", "a.h", "30", "19.5 %", "40", "1"]
+# Name, detail, self, share of the busy time of the threads that have it, total and count.
+A_ROW = ["Source", "a.h", "30", "31.9 %", "40", "1"]
 B_ROW = ["Source", "b.h", "35", "22.7 %", "35", "2"]
-LONG_READ = ["Read", BRIEF, "20", "13.0 %", "20", "1"]
-RIGHT_READ = ["Read", RIGHT, "15", "9.7 %", "15", "1"]
-PLAIN = ["Source a.h", "-", "10", "6.5 %", "10", "1"]
-NULL, FALSE, TRUE = [["Odd", *row, "1"] for row in [["null", "9", "5.8 %", "9"], ["false", "8", "5.2 %", "8"], ["true", "7", "4.5 %", "7"]]]
-LEAST_ROW, MOST_ROW = ["Odd", str(LEAST), "6", "3.9 %", "6", "1"], ["Odd", str(MOST), "5", "3.2 %", "5", "1"]
-ANY = ["Odd", "...", "4", "2.6 %", "4", "1"]
-NULL_TEXT, EMPTY_TEXT = ["Odd", "null", "3", "1.9 %", "3", "1"], ["Odd", '""', "2", "1.3 %", "2", "1"]
+LONG_READ = ["Read", BRIEF, "20", "33.3 %", "20", "1"]
+RIGHT_READ = ["Read", RIGHT, "15", "25.0 %", "15", "1"]
+PLAIN = ["Source a.h", "-", "10", "10.6 %", "10", "1"]
+NULL, FALSE, TRUE = [["Odd", *row, "1"] for row in [["null", "9", "9.6 %", "9"], ["false", "8", "8.5 %", "8"], ["true", "7", "7.4 %", "7"]]]
+LEAST_ROW, MOST_ROW = ["Odd", str(LEAST), "6", "6.4 %", "6", "1"], ["Odd", str(MOST), "5", "5.3 %", "5", "1"]
+ANY = ["Odd", "...", "4", "4.3 %", "4", "1"]
+NULL_TEXT, EMPTY_TEXT = ["Odd", "null", "3", "3.2 %", "3", "1"], ["Odd", '""', "2", "2.1 %", "2", "1"]
 DETAILS_BY_SELF = [B_ROW, A_ROW, LONG_READ, RIGHT_READ, PLAIN, NULL, FALSE, TRUE, LEAST_ROW, MOST_ROW, ANY, NULL_TEXT, EMPTY_TEXT]
 BY_DETAIL = [PLAIN, NULL, FALSE, TRUE, LEAST_ROW, MOST_ROW, EMPTY_TEXT, RIGHT_READ, LONG_READ, A_ROW, B_ROW, NULL_TEXT, ANY]
 LABELS = [("Source a.h", 50), ("Odd null", 12), ("Odd false", 8), ("Odd true", 7), (f"Odd {LEAST}", 6), (f"Odd {MOST}", 5), ("Odd ...", 4), ("Odd ", 2)]
