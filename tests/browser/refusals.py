@@ -13,8 +13,8 @@ from views import put_traces, refusals
 
 def try_reasons(driver, program, folder):
     """Each number that can refuse an event has its reason in words."""
-    with open(os.path.join(ROOT, "docs", "report.md"), encoding="utf-8") as file:
-        numbers = re.findall(r"^\| ((?:1|2)\d) (\| \w+) \|", file.read(), re.MULTILINE)
+    with open(os.path.join(ROOT, "docs", "tracebook.1"), encoding="utf-8") as file:
+        numbers = re.findall(r"^\.B ([12]\d) \w+$", file.read(), re.MULTILINE)
     on_keys = [{"ph": "f", "id": 1, "ts": 1}, {"ph": "s", "id": 1, "ts": 1}, {"ph": "s", "id": 1, "ts": 1}, {"ph": "e", "id": 1, "ts": 1}]
     on_keys += [{"ph": "b", "id": 2, "ts": 5}, {"ph": "e", "id": 2, "ts": 1}]
     on_threads = [{"ph": "E", "ts": 0}, {"ph": "B", "name": "a", "ts": 5}, {"ph": "B", "ts": 4}, {"ph": "E", "name": "b", "ts": 5}]
@@ -22,7 +22,7 @@ def try_reasons(driver, program, folder):
     put_traces(folder, {"refused.json": f"[{','.join(elements)}]"})
     page = Page(driver, program, ["--strict", "refused.json"], folder=folder)
     items = refusals(page)
-    expect("the numbers of the refusals", [item.split(" ")[2] for item in items], [number for number, _ in numbers])
+    expect("the numbers of the refusals", [item.split(" ")[2] for item in items], numbers)
     for item in items:
         if not re.match(r"1 \u00d7 \d\d \w+: .*; first at element \d+ of ", item):
             fail(f"no reason in {item!r}")
