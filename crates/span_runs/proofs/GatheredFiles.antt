@@ -1,7 +1,12 @@
 -- Files that are gathered, one more, and those of two groups.
 use Rattle.std.specs.Prelude.{flat_map}
-use Rattle.std.proofs.{Common.{◌≡◌, List, [], ◌∷◌, ◌++◌, length, map, ap, ap₂, subst, sym, ◌∙◌, append-nil}, lemmas.{Grind.flat_map-append, List.{length-map, map-append, map_push, Elements.{All-append, All-nil, All-push}}, Slice.Zip.AllZip-long}}
-use Rattle.span_runs.specs.{Bytes, Input, Settings, Run, Warning, Apart.{AddsFile, AreGathered, GathersFiles, IsAccounted, run_alone}, Inputs.{AreInputs, IsInput}, Said.{IsBehind, SaysOfFiles, SaysMore, refusal_line, warnings_alone}, Source.SourceBytes, declared.{gathered.Gathered.Gathered, said.Said.Said, source.Name.Name}}
+use Rattle.std.proofs.{Common.{◌≡◌, ◌+◌, ◌<◌, ◌≤◌, ◌^◌, ℕ, suc, List, [], ◌∷◌, ◌++◌, length, map, take, drop, ap, ap₂, subst, sym, ◌∙◌, append-nil, arith}, Math.{ListN.get_or, Seq.drop-cons}, lemmas.{Grind.flat_map-append, List.{take-append-drop, length-map, map-append, map_push, Elements.{All-append, All-nil, All-push}}, Slice.Zip.AllZip-long}}
+use Rattle.span_runs.specs.{Bytes, Input, Settings, Run, Warning, Apart.{AddsFile, AreGathered, GathersFiles, IsAccounted, run_alone}, Inputs.{AreInputs, IsInput}, Runs.{shorter, shortened}, Said.{IsBehind, SaysOfFiles, SaysMore, refusal_line, warnings_alone}, Source.SourceBytes, declared.{gathered.Gathered.Gathered, said.Said.Said, source.Name.Name}}
+
+-- the names before one, that one, and those behind it are all
+pub around-name : (names : List Name) (place : ℕ) (name : Name) → place < length names → name ≡ get_or names place name → take place names ++ name ∷ drop (suc place) names ≡ names
+around-name names place name low is =
+    ap (λ n. take place names ++ n ∷ drop (suc place) names) is ∙ ap (λ (ns : List Name). take place names ++ ns) (sym (drop-cons names place name low)) ∙ take-append-drop place names
 
 -- inputs and others, read of names and others
 pub AreInputs-append : (source : SourceBytes) (names more : List Name) (inputs others : List Input) → AreInputs source names inputs → AreInputs source more others → AreInputs source (names ++ more) (inputs ++ others)
@@ -69,3 +74,16 @@ AreGathered-append source names more settings ComeTo first second both one other
 -- there are as many runs as names
 pub length-gathered : (source : SourceBytes) (names : List Name) (settings : Settings) (files : List Input) → AreInputs source names files → length (map (run_alone settings) files) ≡ length names
 length-gathered source names settings files read = length-map files (run_alone settings) ∙ AllZip-long (IsInput source) names files read
+
+module _ {T : Type 0} (cut : ℕ) (ComeTo : List Run → T → Type 0) (first second : T) where
+  -- what is joined is joined where names are shorter
+  pub joins-shortened : (both : T) → ((runs others : List Run) → ComeTo runs first → ComeTo others second → ComeTo (runs ++ others) both) → (runs others : List Run) → shortened cut ComeTo runs first
+      → shortened cut ComeTo others second → shortened cut ComeTo (runs ++ others) both
+  joins-shortened both joins runs others one other =
+      subst (λ (all : List Run). ComeTo all both) (sym (map-append (shorter cut) runs others)) (joins (map (shorter cut) runs) (map (shorter cut) others) one other)
+
+  -- and they are as many
+  pub many-shortened : ((runs others : List Run) → ComeTo runs first → ComeTo others second → 2 ^ 32 ≤ length runs + length others) → (runs others : List Run) → shortened cut ComeTo runs first
+      → shortened cut ComeTo others second → 2 ^ 32 ≤ length runs + length others
+  many-shortened many runs others one other =
+      omega (arith, many (map (shorter cut) runs) (map (shorter cut) others) one other, length-map runs (shorter cut), length-map others (shorter cut))

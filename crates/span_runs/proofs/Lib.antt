@@ -1,5 +1,6 @@
 pub mod AlikeRuns
 pub mod Alone
+pub mod FolderFiles
 pub mod GatheredFiles
 pub mod InTurn
 pub mod Listing

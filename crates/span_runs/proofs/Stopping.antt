@@ -1,8 +1,8 @@
 -- What is said where something stopped among files, with more files after them or before them.
 use Rattle.std.specs.Prelude.{flat_map}
-use Rattle.std.proofs.{Common.{◌≡◌, ℕ, suc, ◌+◌, ◌<◌, ◌≤◌, ◌^◌, ◌⊎◌, List, [], ◌∷◌, ◌++◌, length, map, take, drop, inl, inr, refl, ap, sym, subst, ◌∙◌, append_assoc, arith}, Math.{ListN.get_or, Seq.drop-cons}, lemmas.{Grind.flat_map-append, List.{length-append, take-append-drop, Elements.All-append}}}
-use Rattle.span_runs.specs.{Bytes, FileCount, number_of, IsHint, run_line, Settings, Run, Apart.{GathersFiles, IsAccounted, run_alone}, Said.refusal_line, Source.SourceBytes, Stops.{HaltsAfter, IsHinted, OfStop, StopsAfter, StopsAmong, StopsAtFirst}, declared.{gathered.Gathered.Gathered, source.Name.Name, stop.Halt.{Halt, TheVariants.{Stopped, Memory}}}}
-use Rattle.span_runs.proofs.GatheredFiles.{AreInputs-append, length-gathered}
+use Rattle.std.proofs.{Common.{◌≡◌, ℕ, suc, ◌+◌, ◌<◌, ◌≤◌, ◌^◌, ◌⊎◌, List, [], ◌∷◌, ◌++◌, length, map, take, drop, inl, inr, refl, ap, sym, subst, ◌∙◌, append_assoc, arith}, Math.ListN.get_or, lemmas.{Grind.flat_map-append, List.{length-append, length-map, Elements.All-append}}}
+use Rattle.span_runs.specs.{Bytes, FileCount, number_of, IsHint, run_line, Settings, Run, Apart.{GathersFiles, IsAccounted, run_alone}, Runs.{shorter, shortened}, Said.refusal_line, Source.SourceBytes, Stops.{HaltsAfter, IsHinted, IsTooMany, OfStop, StopsAfter, StopsAmong, StopsAtFirst}, declared.{gathered.Gathered.Gathered, source.Name.Name, stop.Halt.{Halt, TheVariants.{Stopped, Memory}}}}
+use Rattle.span_runs.proofs.GatheredFiles.{AreInputs-append, around-name, length-gathered}
 
 -- what is said means more
 pub OfStop-weaker : (Says Other : Bytes → Type 0) → ((lines : Bytes) → Says lines → Other lines) → (halt : Halt) → OfStop Says halt → OfStop Other halt
@@ -22,6 +22,10 @@ OfStop-hinted Says (Stopped old) (Stopped new) hinted says = (subst (λ lines. S
 OfStop-hinted Says (Stopped old) Memory hinted says = tt
 OfStop-hinted Says Memory (Stopped new) hinted says = absurd hinted
 OfStop-hinted Says Memory Memory hinted says = tt
+
+-- as many runs are too many where names are shorter
+pub IsTooMany-shortened : {T : Type 0} (cut : ℕ) (ComeTo : List Run → T → Type 0) (old : T) (more : ℕ) (before lines : Bytes) → IsTooMany ComeTo old more before lines → IsTooMany (shortened cut ComeTo) old more before lines
+IsTooMany-shortened cut ComeTo old more before lines many = (many.0, λ runs have. omega (arith, many.1 (map (shorter cut) runs) have, length-map runs (shorter cut)))
 
 module _ (source : SourceBytes) (settings : Settings) where
   -- this stops at the first of these files, or there are too many of all
@@ -47,11 +51,8 @@ module _ (source : SourceBytes) (settings : Settings) where
   pub StopsAmong-at : {T : Type 0} (names : List Name) (place : ℕ) (name : Name) (ComeTo : List Run → T → Type 0) (old : Gathered T) → place < length names → name ≡ get_or names place name →
       GathersFiles source (take place names) settings ComeTo old → (lines : Bytes) →
       StopsAfter source name settings ComeTo old lines → StopsAmong source settings names lines
-  StopsAmong-at names place name ComeTo old low is gathered lines stops = subst (λ (ns : List Name). StopsAmong source settings ns lines) all (by_cause stops)
+  StopsAmong-at names place name ComeTo old low is gathered lines stops = subst (λ (ns : List Name). StopsAmong source settings ns lines) (around-name names place name low is) (by_cause stops)
     where
-      all : take place names ++ name ∷ drop (suc place) names ≡ names
-      all = ap (λ n. take place names ++ n ∷ drop (suc place) names) is ∙ ap (λ (ns : List Name). take place names ++ ns) (sym (drop-cons names place name low)) ∙ take-append-drop place names
-
       by_cause : StopsAfter source name settings ComeTo old lines → StopsAmong source settings (take place names ++ name ∷ drop (suc place) names) lines
       by_cause (inl (own, stops, same)) = StopsAmong-behind (take place names) (name ∷ drop (suc place) names) ComeTo old own lines gathered same (inl stops)
       by_cause (inr (same, many)) =

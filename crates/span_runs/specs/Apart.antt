@@ -1,6 +1,6 @@
 -- Files each of which is a run of its own, gathered.
-use Rattle.std.specs.Prelude.{◌≡◌, ◌<◌, List, [], ◌∷◌, ◌++◌, length, map, All}
-use Rattle.span_runs.specs.{Entry, FileEnd, Input, Asked, Sealing, Settings, status_of, SealedAccount, Run, AreAlikeRuns, Inputs.{AreInputs, IsInput}, Runs.{run_in_turn, run_of_files}, Said.{SaysMore, SaysOfFiles}, Source.SourceBytes, declared.{file_run.FileRun.FileRun, gathered.Gathered.Gathered, said.Said.Said, source.Name.Name}}
+use Rattle.std.specs.Prelude.{◌≡◌, ◌<◌, ℕ, List, [], ◌∷◌, ◌++◌, drop, length, map, All}
+use Rattle.span_runs.specs.{Entry, FileEnd, Input, Asked, Sealing, Settings, status_of, SealedAccount, Run, AreAlikeRuns, Inputs.{AreInputs, IsInput}, Runs.{labelled, run_in_turn, run_of_files}, Said.{SaysMore, SaysOfFiles}, Source.SourceBytes, declared.{file_run.FileRun.FileRun, gathered.Gathered.Gathered, said.Said.Said, source.Name.Name}}
 
 -- the run of a file alone
 abbrev pub run_alone : Settings → Input → Run
@@ -26,7 +26,13 @@ pub record IsFileRun (source : SourceBytes) (name : Name) (settings : Settings) 
 
 -- as a table takes it
 abbrev pub run_of : FileRun → Run
-run_of run = run_of_files (run.file ∷ []) run.collected.end.ends.items run.collected.ledger.journal
+run_of run = labelled run.label (run_of_files (run.file ∷ []) run.collected.end.ends.items run.collected.ledger.journal)
+
+-- the same, where the column of files leaves out so many bytes of the name
+pub record IsShorter (cut : ℕ) (old new : FileRun) : Type 0 where
+  pub file : new.file ≡ old.file
+  pub collected : new.collected ≡ old.collected
+  pub label : new.label ≡ drop cut old.file.name
 
 -- Each of the files of these names was collected alone; this is what the runs come to, and what is said of the files, both in their
 -- order.

@@ -1,4 +1,5 @@
 pub mod Apart
+pub mod Folders
 pub mod Gathering
 pub mod Inputs
 pub mod Jobs

@@ -1,8 +1,9 @@
 //! Files each of which is a run of its own, gathered in several jobs at once.
 ghost use Rattle.std.specs.Prelude.{◌≡◌, ◌≤◌, length};
-ghost use Rattle.span_runs.specs.{Jobs.places, Stops.{AddsOrStops, JoinsFiles, GathersOrStops}};
+ghost use Rattle.span_runs.specs.{Jobs.places, Runs.shortened, Stops.{AddsOrStops, JoinsFiles, GathersOrStops}};
 
 use crate::file_run::collect_file;
+use crate::folders::Listed;
 use crate::gathered::Gathered;
 use crate::gathering::Gathering;
 use crate::jobs::{Stopped, in_jobs};
@@ -25,24 +26,27 @@ struct FileWork<'a, S> {
     keys: HashKeys,
     of: Of,
     columns: &'a [Column],
+    // How many bytes of each name the column of files leaves out.
+    cut: usize,
     stopped: &'a Stopped,
 }
 
-/// Reads the files of these names one after another, in so many jobs at once, collects each as a run of its own, and gathers their
-/// tables, which are of the same and by these columns. The first file that stops, in the order of the names, decides.
+/// Reads these files one after another, in so many jobs at once, collects each as a run of its own, and gathers their tables, which are
+/// of the same and by these columns. The first file that stops, in the order of the names, decides.
 pub fn gather_apart<T: Gathering, S: Source + Sync, R: Threads + Wait + RandomSource + Sync>(
     rt: &R,
     alloc: Global,
     source: &S,
-    names: &[Name],
+    files: &Listed,
     settings: &Settings,
     of: Of,
     columns: &[Column],
     jobs: u32,
 ) -> Result<Gathered<T>, Halt>
-    ensures { GathersOrStops (S.bytes source.now) names.now settings.now
-        (T.come_to of columns.now) result }
+    ensures { GathersOrStops (S.bytes source.now) files.now.names.items settings.now
+        (shortened files.now.cut (T.come_to of columns.now)) result }
 {
+    let names = files.names.as_slice();
     let Ok(sizes) = sizes_of(alloc, source, names) else {
         return Err(Halt::Memory);
     };
@@ -54,6 +58,7 @@ pub fn gather_apart<T: Gathering, S: Source + Sync, R: Threads + Wait + RandomSo
         keys: HashKeys::random(rt),
         of,
         columns,
+        cut: files.cut,
         stopped: &stopped,
     };
     gather_in_jobs(rt, &work, names, &sizes, jobs)
@@ -69,13 +74,13 @@ fn gather_in_jobs<T: Gathering, S: Source + Sync, R: Threads + Wait + RandomSour
 ) -> Result<Gathered<T>, Halt>
     requires { length sizes.now ≡ length names.now }
     ensures { GathersOrStops (S.bytes work.now.source.now) names.now
-        work.now.settings (T.come_to work.now.of work.now.columns.now) result }
+        work.now.settings (shortened work.now.cut (T.come_to work.now.of work.now.columns.now)) result }
 {
     let take = move |from: usize, to: usize| -> Result<Gathered<T>, Halt>
         requires { (from ≤ to) × (to ≤ length names.now) }
         ensures { GathersOrStops (S.bytes work.entry.now.source.now)
             (places from to names.entry.now) work.entry.now.settings
-            (T.come_to work.entry.now.of work.entry.now.columns.now) result }
+            (shortened work.entry.now.cut (T.come_to work.entry.now.of work.entry.now.columns.now)) result }
     { gather_in_job(rt, work, &names[from..to], from as u64) };
     let alloc = work.alloc;
     let join = move |first, second| -> Result<Gathered<T>, Halt>
@@ -92,7 +97,7 @@ fn gather_in_job<T: Gathering, S: Source, R: Threads + Wait + RandomSource + Syn
     place: u64,
 ) -> Result<Gathered<T>, Halt>
     ensures { GathersOrStops (S.bytes work.now.source.now) names.now work.now.settings
-        (T.come_to work.now.of work.now.columns.now) result }
+        (shortened work.now.cut (T.come_to work.now.of work.now.columns.now)) result }
 {
     let (alloc, keys, of, columns) = (work.alloc, work.keys, work.of, work.columns);
     let Ok(none) = Gathered::of_none(alloc, keys, of, columns) else {
@@ -128,7 +133,7 @@ fn add_file<T: Gathering, S: Source, R: Threads + Wait + RandomSource + Sync>(
     gathered: Gathered<T>,
 ) -> Result<Gathered<T>, Halt>
     ensures { AddsOrStops (S.bytes work.now.source.now) name.now work.now.settings
-        (T.come_to work.now.of work.now.columns.now) gathered result }
+        (shortened work.now.cut (T.come_to work.now.of work.now.columns.now)) gathered result }
 {
     let collected = match collect_file(rt, work.alloc, work.source, name, &work.settings) {
         Ok(collected) => collected,
@@ -136,6 +141,9 @@ fn add_file<T: Gathering, S: Source, R: Threads + Wait + RandomSource + Sync>(
             let Gathered { said, .. } = gathered;
             return Err(halt.after(said.lines));
         }
+    };
+    let Ok(collected) = collected.shorter(work.alloc, work.cut) else {
+        return Err(Halt::Memory);
     };
     match gathered.with_run(work.alloc, work.keys, work.of, work.columns, &collected) {
         Ok(more) => Ok(more),

@@ -1,6 +1,6 @@
 //! A file that is a run of its own.
-ghost use Rattle.std.specs.Prelude.{◌≡◌, ◌∷◌, [], length, IfErr, IfOk};
-ghost use Rattle.span_runs.specs.{IsNotCollected, status_of, SealedAccount, Apart.IsFileRun, Stops.{OfStop, StopsAt, cut_lines}};
+ghost use Rattle.std.specs.Prelude.{◌≡◌, ◌∷◌, [], drop, length, IfErr, IfOk};
+ghost use Rattle.span_runs.specs.{IsNotCollected, status_of, SealedAccount, Apart.{IsFileRun, IsShorter}, Stops.{OfStop, StopsAt, cut_lines}};
 
 use crate::files::read_input;
 use crate::source::{Name, Source};
@@ -8,17 +8,48 @@ use crate::stop::{Halt, Stop};
 use span_collect::{
     Collected, Input, RunError, Settings, collect_to_ledger, fault_line_of, fault_lines,
 };
+use span_event::Text;
 use std::alloc::{AllocError, Global};
 use std::random::RandomSource;
 use std::slice::from_ref;
 use std::sync::Wait;
 use std::thread::Threads;
 
-/// A file, and what was collected of it alone.
+/// A file, what was collected of it alone, and what the column of files has of it.
 #[derive(Drop)]
 pub struct FileRun {
     pub file: Input,
     pub collected: Collected,
+    pub label: Text,
+}
+
+impl FileRun {
+    /// The same, where the column of files leaves out so many bytes of the name.
+    pub fn shorter(self, alloc: Global, cut: usize) -> Result<FileRun, AllocError>
+        ensures { IfOk result (IsShorter cut self) }
+    {
+        let FileRun {
+            file,
+            collected,
+            ..
+        } = self;
+        let label = label_of(alloc, &file.name, cut)?;
+        Ok(FileRun {
+            file,
+            collected,
+            label,
+        })
+    }
+}
+
+fn label_of(alloc: Global, name: &Text, cut: usize) -> Result<Text, AllocError>
+    ensures { IfOk result (λ label. label ≡ drop cut name.now) }
+{
+    // What is left out is a folder with which the name begins, so this can't fail.
+    match name.as_str().split_at_checked(cut) {
+        Some((_, label)) => Text::of(alloc, label),
+        None => Err(AllocError),
+    }
 }
 
 /// Reads the file of this name, and collects it as a run of its own. One that ends with 2 is a fault.
@@ -44,7 +75,14 @@ pub fn collect_file<S: Source, R: Threads + Wait + RandomSource + Sync>(
     if collected.end.status == 2 {
         return Err(cut_of(alloc, &file, &collected));
     }
-    Ok(FileRun { file, collected })
+    let Ok(label) = file.name.try_clone(alloc) else {
+        return Err(Halt::Memory);
+    };
+    Ok(FileRun {
+        file,
+        collected,
+        label,
+    })
 }
 
 fn collect_alone<R: Threads + Wait + RandomSource + Sync>(

@@ -76,12 +76,12 @@ impl Gathering for TableSum {
         _columns: &[Column],
         run: &FileRun,
     ) -> Result<TableSum, SumFault> {
-        let FileRun { file, collected } = run;
+        let collected = &run.collected;
         self.add_run(
             &collected.ledger,
             1,
             collected.end.unread(),
-            Some(&file.name),
+            Some(&run.label),
         )
     }
 
@@ -117,7 +117,7 @@ impl Gathering for Vec<Table> {
         columns: &[Column],
         run: &FileRun,
     ) -> Result<Vec<Table>, SumFault> {
-        let FileRun { file, collected } = run;
+        let collected = &run.collected;
         let Ok(table) = Table::of(
             alloc,
             keys,
@@ -126,7 +126,7 @@ impl Gathering for Vec<Table> {
             &collected.ledger,
             1,
             collected.end.unread(),
-            Some(&file.name),
+            Some(&run.label),
         ) else {
             return Err(SumFault::Memory);
         };

@@ -1,6 +1,6 @@
 //! Where the bytes of files come from.
-ghost use Rattle.std.specs.Prelude.{◌≡◌, ◌≤◌, length, vec_len, IfOk};
-ghost use Rattle.span_runs.specs.Source.{AreFirst, SourceBytes, printed};
+ghost use Rattle.std.specs.Prelude.{◌≡◌, ◌≤◌, length, option_map, vec_items, vec_len, IfErr, IfOk};
+ghost use Rattle.span_runs.specs.{Folders.{FailsBelow, HasBelow, SourceFolders}, Source.{AreFirst, SourceBytes, printed}};
 
 use span_event::Text;
 use span_faults::Reason;
@@ -35,9 +35,28 @@ pub enum SourceFault {
     Memory,
 }
 
-/// Standard input and files. Contracts see their bytes, where it gives them. Files may be read in several threads at once.
+/// Why a folder could not be looked through.
+#[derive(Drop)]
+pub enum FolderFault {
+    /// 52: the folder of this path, which is that folder or one below it, could not be read, or has a name that is not UTF-8. Of several
+    /// it is the first by the bytes of its path.
+    NotRead { path: Text, reason: Reason },
+    /// 31: memory was refused.
+    Memory,
+}
+
+/// Standard input, files and folders. Contracts see what they hold, where it is known. Files may be read in several threads at once.
 pub trait Source {
     ghost bytes: { Self → SourceBytes };
+
+    ghost folders: { Self → SourceFolders };
+
+    /// The regular files below the folder of this path whose names end so, by their paths below it, in the order of the bytes of these;
+    /// None where it is no folder. Names that begin with a dot are left out, and so are links; but the path may be a link to a folder.
+    fn files_below(&self, path: &Text, ending: &str) -> Result<Option<Vec<Text>>, FolderFault>
+        ensures found { IfOk result (λ found.
+            HasBelow (folders self.now ending.now path.now) (option_map vec_items found)) }
+        ensures failed { IfErr result (FailsBelow (folders self.now ending.now path.now)) };
 
     /// The bytes that the name stands for, or the first `most` of them. Standard input is read once.
     fn read(&self, name: &Name, most: u64) -> Result<Vec<u8>, SourceFault>
