@@ -16,6 +16,8 @@ pub enum Reason {
     Folder,
     /// It is a list of names, and not UTF-8.
     NotText,
+    /// It is a folder, and a name in it is not UTF-8.
+    OddName,
     /// It is standard input, and was read before.
     Taken,
     Other,
@@ -29,6 +31,7 @@ impl Reason {
             Reason::Denied => "it may not be read by this user",
             Reason::Folder => "it is a folder",
             Reason::NotText => "it is not UTF-8 text",
+            Reason::OddName => "a name in it is not UTF-8 text",
             Reason::Taken => "standard input was read before, and can be read only once",
             Reason::Other => "reading it failed",
         }

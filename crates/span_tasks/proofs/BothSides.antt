@@ -4,26 +4,28 @@ use Rattle.span_event.specs.declared.unit.Unit.TheVariants.{Microseconds}
 use Rattle.span_table.specs.declared.of.Of.TheVariants.{Spans}
 use Rattle.span_runs.proofs.GatheredFiles.{length-gathered}
 use Rattle.span_request.specs.declared.tasks.Items.TheVariants.{Apart as EachApart, Printed, Together}
-use Rattle.span_tasks.specs.{Bytes, Number, Name, SourceBytes, Items, PartSum, SpanTable, TableOptions, run_alone, table_of, table_of_run, Added.Adds, Sides.{AreSides, IsOneSide, IsSide, StopSides, StopsOneSide, StopsSide}, declared.side.Side.Side}
+use Rattle.span_tasks.specs.{Bytes, Listed, Number, Name, SourceBytes, Items, PartSum, SpanTable, TableOptions, run_alone, shorter, table_of, table_of_run, Added.Adds, Sides.{AreSides, IsOneSide, IsSide, StopSides, StopsOneSide, StopsSide}, declared.side.Side.Side}
 
 -- parts of no tables, where no kind is asked for
 pub no-parts : PartSum
 no-parts = record { of = Spans; unit = Microseconds; columns = []; places = []; sum = table_of Spans [] [] }
 
 -- a side that has a table of each name has few where there are few names
-pub length-side : (source : SourceBytes) (items : Items) (options : TableOptions) (parts : PartSum) (names : List Name) (side : Side) → IsSide source items options true parts names side → length names ≤ 64 → length side.tables.items ≤ 64
-length-side source (Together settings) options parts names side is few = let one = ap length is.1.is in omega (arith, one)
-length-side source (EachApart settings) options parts names side is few =
-    let same = ap length is.1.runs ∙ length-map (map (run_alone settings) is.1.files) (table_of_run options.of options.columns.items) ∙ length-gathered source names settings is.1.files is.1.read in
+pub length-side : (source : SourceBytes) (items : Items) (options : TableOptions) (parts : PartSum) (files : Listed) (side : Side) → IsSide source items options true parts files side → length files.names.items ≤ 64 → length side.tables.items ≤ 64
+length-side source (Together settings) options parts files side is few = let one = ap length is.1.is in omega (arith, one)
+length-side source (EachApart settings) options parts files side is few =
+    let runs = map (run_alone settings) is.1.files in
+    let same = ap length is.1.runs ∙ length-map (map (shorter files.cut) runs) (table_of_run options.of options.columns.items) ∙ length-map runs (shorter files.cut)
+    ∙ length-gathered source files.names.items settings is.1.files is.1.read in
     omega (arith, same, few)
-length-side source Printed options parts names side is few =
-    let same = AllZip-long (λ (name : Name) (table : SpanTable). Adds source parts (name ∷ []) table) names side.tables.items is.1 in omega (arith, same, few)
+length-side source Printed options parts files side is few =
+    let same = AllZip-long (λ (name : Name) (table : SpanTable). Adds source parts (name ∷ []) table) files.names.items side.tables.items is.1 in omega (arith, same, few)
 
 module _ (source : SourceBytes) (options : TableOptions) (by : Option Number) (each : Bool) where
-  IsSide-runs : (items : Items) (one other : PartSum) (names : List Name) (side : Side) → (items ≡ Printed → ⊥) → IsSide source items options each one names side → IsSide source items options each other names side
-  IsSide-runs (Together settings) one other names side runs is = is
-  IsSide-runs (EachApart settings) one other names side runs is = is
-  IsSide-runs Printed one other names side runs is = absurd (runs refl)
+  IsSide-runs : (items : Items) (one other : PartSum) (files : Listed) (side : Side) → (items ≡ Printed → ⊥) → IsSide source items options each one files side → IsSide source items options each other files side
+  IsSide-runs (Together settings) one other files side runs is = is
+  IsSide-runs (EachApart settings) one other files side runs is = is
+  IsSide-runs Printed one other files side runs is = absurd (runs refl)
 
   StopsSide-runs : (items : Items) (parts : PartSum) (names : List Name) (lines : Bytes) → (items ≡ Printed → ⊥) → StopsOneSide source items options by each names lines → StopsSide source items each parts names lines
   StopsSide-runs (Together settings) parts names lines runs (inl kind) = absurd kind
@@ -33,24 +35,24 @@ module _ (source : SourceBytes) (options : TableOptions) (by : Option Number) (e
   StopsSide-runs Printed parts names lines runs stops = absurd (runs refl)
 
   -- both sides of runs are two sides
-  pub AreSides-runs : (items : Items) (base_names names : List Name) (base other : Side) → (items ≡ Printed → ⊥) → IsOneSide source items options by each base_names base →
-      IsOneSide source items options by each names other → AreSides source items options by each base_names names base other
-  AreSides-runs items base_names names base other runs one another = record {
+  pub AreSides-runs : (items : Items) (base_files files : Listed) (base other : Side) → (items ≡ Printed → ⊥) → IsOneSide source items options by each base_files base →
+      IsOneSide source items options by each files other → AreSides source items options by each base_files files base other
+  AreSides-runs items base_files files base other runs one another = record {
     parts = one.parts;
     kind = one.kind;
     earlier = one.is;
-    later = IsSide-runs items another.parts one.parts names other runs another.is;
+    later = IsSide-runs items another.parts one.parts files other runs another.is;
   }
 
   -- and the second may stop behind the first
-  pub StopSides-runs : (items : Items) (base_names names : List Name) (base : Side) (own lines : Bytes) → (items ≡ Printed → ⊥) → IsOneSide source items options by each base_names base →
-      StopsOneSide source items options by each names own → lines ≡ base.said.lines.items ++ own → StopSides source items options by each base_names names lines
-  StopSides-runs items base_names names base own lines runs one stops said = inr (record {
+  pub StopSides-runs : (items : Items) (base_files files : Listed) (base : Side) (own lines : Bytes) → (items ≡ Printed → ⊥) → IsOneSide source items options by each base_files base →
+      StopsOneSide source items options by each files.names.items own → lines ≡ base.said.lines.items ++ own → StopSides source items options by each base_files files lines
+  StopSides-runs items base_files files base own lines runs one stops said = inr (record {
     parts = one.parts;
     kind = one.kind;
     base = base;
     earlier = one.is;
     own = own;
-    later = StopsSide-runs items one.parts names own runs stops;
+    later = StopsSide-runs items one.parts files.names.items own runs stops;
     said = said;
   })

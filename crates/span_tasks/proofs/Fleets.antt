@@ -7,7 +7,7 @@ use Rattle.span_table_text.proofs.{Determined.prints-determined, RunTables.{show
 use Rattle.span_table.specs.{Columns.column_name, Adding.{add_tables, with_columns}, declared.table.Row.Row}
 use Rattle.span_parts.proofs.RunSums.{sum-runs, sum-shown}
 use Rattle.span_request.specs.declared.tasks.Items.TheVariants.{Printed}
-use Rattle.span_tasks.specs.{Bytes, Settings, run_alone, run_of_files, Number, Column, IsPart, IsPrint, Name, Of, PartSum, Run, SumsParts, SourceBytes, TimeUnit, SpanTable, TableOptions, Wanted, shown_table, table_of, picked, chosen, AreAt, AreParts, Added.{AreAsked, AreOfFirst, IsText, most_added, with_sum}, Tabulations.MakesJson, Fleet.{AreRunsOf, AreRunsOfEach, Fleet, Fleets, FleetsLoseNothing, FleetsPrintAlike, KeepsColumns, PrintEach, ShowEach, TableKind, all_rows, kind_of, kind_of_first, more, of_files, of_printed, one}}
+use Rattle.span_tasks.specs.{Bytes, Settings, run_alone, run_of_files, shorter, Number, Column, IsPart, IsPrint, Listed, Name, Of, PartSum, Run, SumsParts, SourceBytes, TimeUnit, SpanTable, TableOptions, Wanted, shown_table, table_of, picked, chosen, AreAt, AreParts, Added.{AreAsked, AreOfFirst, IsText, most_added, with_sum}, Tabulations.MakesJson, Fleet.{AreRunsOf, AreRunsOfEach, Fleet, Fleets, FleetsLoseNothing, FleetsPrintAlike, KeepsColumns, PrintEach, ShowEach, TableKind, all_rows, kind_of, kind_of_first, more, of_files, of_printed, one}}
 
 -- the one table of a list
 pub only-same : (first other : SpanTable) → first ∷ [] ≡ other ∷ [] → first ≡ other
@@ -109,7 +109,7 @@ files-print settings options wanted runs text unit table shows in_unit is print 
 abbrev kind_of_sum : PartSum → TableKind
 kind_of_sum parts = record { of = parts.of; unit = parts.unit; columns = parts.columns }
 
-module _ (wanted : Wanted) (source : SourceBytes) (options : TableOptions) (names : List Name) (parts : Fleets) (text : Bytes) (prints : MakesJson source Printed options names text) where
+module _ (wanted : Wanted) (source : SourceBytes) (options : TableOptions) (files : Listed) (parts : Fleets) (text : Bytes) (prints : MakesJson source Printed options files text) where
   abbrev own_parts : PartSum
   own_parts = prints.one.is.parts
 
@@ -120,7 +120,7 @@ module _ (wanted : Wanted) (source : SourceBytes) (options : TableOptions) (name
   own_columns = chosen options.columns.items own_parts.columns
 
   own-at : AreAt own_parts.places own_columns own_parts.columns
-  own-at = (AreAsked-first source options.columns.items None names own_parts prints.one.is.kind).chooses
+  own-at = (AreAsked-first source options.columns.items None files.names.items own_parts prints.one.is.kind).chooses
 
   own-print : IsPrint own_parts.unit text (shown_table options.shown own_sum)
   own-print =
@@ -130,7 +130,7 @@ module _ (wanted : Wanted) (source : SourceBytes) (options : TableOptions) (name
 
   -- the sum of tables of runs, of which these are shown
   sum-of_runs : (runs : List Run) → AreRunsOfEach parts runs → kind_of_first parts ≡ kind_of_sum own_parts → shown_table options.shown own_sum ≡ shown_table wanted (table_of own_parts.of own_columns runs) →
-      HasRuns wanted (of_printed source options names parts) text
+      HasRuns wanted (of_printed source options files parts) text
   sum-of_runs runs are kind shown = (
     runs,
     are,
@@ -139,7 +139,7 @@ module _ (wanted : Wanted) (source : SourceBytes) (options : TableOptions) (name
 
   -- the tables that are added
   module _ (texts : List Bytes) (sums : SumsParts texts (with_sum own_parts own_sum)) where
-    sum-all : HaveRuns all_rows (kind_of_sum own_parts) parts sums.parts → options.shown ≡ wanted → HasRuns wanted (of_printed source options names parts) text
+    sum-all : HaveRuns all_rows (kind_of_sum own_parts) parts sums.parts → options.shown ≡ wanted → HasRuns wanted (of_printed source options files parts) text
     sum-all have shows =
         let added = sums.adds ∙ ap (λ l. add_tables own_parts.of (picked own_parts.places own_parts.columns) (map (with_columns own_parts.places) l)) (have.tables ∙ whole have.lists)
         ∙ sum-runs own_parts.of own_columns own_parts.columns own_parts.places own-at have.lists in
@@ -149,7 +149,7 @@ module _ (wanted : Wanted) (source : SourceBytes) (options : TableOptions) (name
         whole [] = refl
         whole (runs ∷ lists) = ap₂ (λ (t : SpanTable) l. t ∷ l) (shown_table-all all_rows (table_of own_parts.of own_parts.columns runs) refl) (whole lists)
 
-    sum-each : HaveRuns wanted (kind_of_sum own_parts) parts sums.parts → KeepsColumns options parts → (options.shown ≡ wanted) ⊎ (options.shown ≡ all_rows) → HasRuns wanted (of_printed source options names parts) text
+    sum-each : HaveRuns wanted (kind_of_sum own_parts) parts sums.parts → KeepsColumns options parts → (options.shown ≡ wanted) ⊎ (options.shown ≡ all_rows) → HasRuns wanted (of_printed source options files parts) text
     sum-each have keeps shows =
         let kept = subst (λ (k : TableKind). All (Contains (chosen options.columns.items k.columns)) k.columns) have.kind keeps in
         let added = sums.adds ∙ ap (λ l. add_tables own_parts.of (picked own_parts.places own_parts.columns) (map (with_columns own_parts.places) l)) have.tables
@@ -163,27 +163,27 @@ module _ (wanted : Wanted) (source : SourceBytes) (options : TableOptions) (name
 mutual
   -- whatever a fleet prints is the table of the runs of all its files
   pub fleets-whole : FleetsLoseNothing
-  fleets-whole wanted (of_files source true settings options names) text shows prints =
+  fleets-whole wanted (of_files source true settings options files) text shows prints =
       let side = prints.one.is.is in
-      let runs = map (run_alone settings) side.1.files in
+      let runs = map (shorter files.cut) (map (run_alone settings) side.1.files) in
       let table = only-same prints.one.table (table_of options.of options.columns.items runs) (sym prints.one.only ∙ side.1.runs) in
       (runs, (side.1.files, side.1.read, side.1.accounted, refl), files-print settings options wanted runs text prints.one.side.unit prints.one.table shows side.0.unit table prints.is)
-  fleets-whole wanted (of_files source false settings options names) text shows prints =
+  fleets-whole wanted (of_files source false settings options files) text shows prints =
       let side = prints.one.is.is in
       let run = side.1.run in
       let runs = run_of_files run.inputs.items run.collected.end.ends.items run.collected.ledger.journal ∷ [] in
       let table = only-same prints.one.table (table_of options.of options.columns.items runs) (sym prints.one.only ∙ side.1.is) in
       (runs, (run, side.1.ended, refl), files-print settings options wanted runs text prints.one.side.unit prints.one.table shows side.0.unit table prints.is)
-  fleets-whole wanted (of_printed source options names parts) text (inl (shows, all)) (prints, (texts, held, each)) =
+  fleets-whole wanted (of_printed source options files parts) text (inl (shows, all)) (prints, (texts, held, each)) =
       let adds = prints.one.is.is.1.1 in
       let own = prints.one.is.parts in
-      let sums = subst (λ ts. SumsParts ts (with_sum own prints.one.is.is.1.0)) (texts-held source names adds.texts texts adds.read held) adds.sums in
-      sum-all wanted source options names parts text prints texts sums (parts-whole all_rows (kind_of_sum own) parts texts sums.parts all each sums.are sums.kinds sums.columns) shows
-  fleets-whole wanted (of_printed source options names parts) text (inr (shows, keeps, shown)) (prints, (texts, held, each)) =
+      let sums = subst (λ ts. SumsParts ts (with_sum own prints.one.is.is.1.0)) (texts-held source files.names.items adds.texts texts adds.read held) adds.sums in
+      sum-all wanted source options files parts text prints texts sums (parts-whole all_rows (kind_of_sum own) parts texts sums.parts all each sums.are sums.kinds sums.columns) shows
+  fleets-whole wanted (of_printed source options files parts) text (inr (shows, keeps, shown)) (prints, (texts, held, each)) =
       let adds = prints.one.is.is.1.1 in
       let own = prints.one.is.parts in
-      let sums = subst (λ ts. SumsParts ts (with_sum own prints.one.is.is.1.0)) (texts-held source names adds.texts texts adds.read held) adds.sums in
-      sum-each wanted source options names parts text prints texts sums (parts-whole wanted (kind_of_sum own) parts texts sums.parts shown each sums.are sums.kinds sums.columns) keeps shows
+      let sums = subst (λ ts. SumsParts ts (with_sum own prints.one.is.is.1.0)) (texts-held source files.names.items adds.texts texts adds.read held) adds.sums in
+      sum-each wanted source options files parts text prints texts sums (parts-whole wanted (kind_of_sum own) parts texts sums.parts shown each sums.are sums.kinds sums.columns) keeps shows
 
   parts-whole : (wanted : Wanted) (kind : TableKind) (parts : Fleets) (texts : List Bytes) (tables : List SpanTable) → ShowEach wanted parts → PrintEach parts texts → AreParts kind.unit texts tables →
       All (λ table. table.of ≡ kind.of) tables → All (λ table. table.columns ≡ kind.columns) tables → HaveRuns wanted kind parts tables

@@ -10,7 +10,7 @@ use Rattle.span_request.specs.{Options, Columns.is_file, Laws.{AddedTablesMayHav
 use Rattle.span_request.specs.declared.tasks.Items.{Items, TheVariants.{Apart, Printed, Together}}
 use Rattle.span_table.specs.Columns.{goes_with}
 use Rattle.span_table.specs.declared.column.Column.TheVariants as of
-use Rattle.span_tasks.specs.{AreColumns, Column, HasOtherColumns, Input, IsPart, IsPrint, Name, Of, PartSum, Run, Settings, SourceBytes, SpanTable, TableOptions, TimeUnit, chosen, goes_by, printed, run_alone, run_of_files, shown_table, table_of, unread_line, AreAt, Added.{AreAsked, AreOfFirst, AreTooMany, IsOfKind, IsRead, IsText, LacksAsked, StopsAdding, StopsNext, most_added, with_sum}, ReadBack.{HasPart, JsonLinesAreParts, PartsAreAdded}, Tabulations.{MakesJson, PrintsText}}
+use Rattle.span_tasks.specs.{AreColumns, Column, HasOtherColumns, Input, IsPart, IsPrint, Listed, Name, Of, PartSum, Run, Settings, SourceBytes, SpanTable, TableOptions, TimeUnit, chosen, goes_by, printed, run_alone, run_of_files, shorter, shown_table, table_of, unread_line, AreAt, Added.{AreAsked, AreOfFirst, AreTooMany, IsOfKind, IsRead, IsText, LacksAsked, StopsAdding, StopsNext, most_added, with_sum}, ReadBack.{HasPart, JsonLinesAreParts, PartsAreAdded}, Tabulations.{MakesJson, PrintsText}}
 use Rattle.span_tasks.proofs.{Fleets.only-same, InTurn.journal_in_turn-legal}
 
 -- each column stands somewhere among them
@@ -103,10 +103,10 @@ no-file run (column ∷ columns) none =
     by (of.Argument key) e = tt
 
 -- a file that is a run of its own has its name
-own-file : (settings : Settings) (columns : List Column) (file : Input) → All (HasFile (run_alone settings file)) columns
-own-file settings columns file = λ k d low. by (get_or columns k d)
+own-file : (cut : ℕ) (settings : Settings) (columns : List Column) (file : Input) → All (HasFile (shorter cut (run_alone settings file))) columns
+own-file cut settings columns file = λ k d low. by (get_or columns k d)
   where
-    by : (column : Column) → HasFile (run_alone settings file) column
+    by : (column : Column) → HasFile (shorter cut (run_alone settings file)) column
     by of.File = refl
     by of.Pid = tt
     by of.Tid = tt
@@ -118,12 +118,12 @@ own-file settings columns file = λ k d low. by (get_or columns k d)
     by of.Id = tt
     by (of.Argument key) = tt
 
-module _ (source : SourceBytes) (options : TableOptions) (names : List Name) (text : Bytes) where
+module _ (source : SourceBytes) (options : TableOptions) (listed : Listed) (text : Bytes) where
   abbrev IsSomePart : Type 0
   IsSomePart = (unit : TimeUnit) × (part : SpanTable) × IsPart unit text part
 
   -- one run's table
-  part-of_run : (settings : Settings) → AreColumns options.of options.columns.items → list_any is_file options.columns.items ≡ false → MakesJson source (Together settings) options names text →
+  part-of_run : (settings : Settings) → AreColumns options.of options.columns.items → list_any is_file options.columns.items ≡ false → MakesJson source (Together settings) options listed text →
       IsSomePart
   part-of_run settings are none prints =
       let side = prints.one.is.is in
@@ -138,27 +138,29 @@ module _ (source : SourceBytes) (options : TableOptions) (names : List Name) (te
       )
 
   -- that of files apart
-  part-of_files : (settings : Settings) → AreColumns options.of options.columns.items → MakesJson source (Apart settings) options names text → IsSomePart
+  part-of_files : (settings : Settings) → AreColumns options.of options.columns.items → MakesJson source (Apart settings) options listed text → IsSomePart
   part-of_files settings are prints =
       let side = prints.one.is.is in
       let files = side.1.files in
-      let runs = map (run_alone settings) files in
+      let alone = map (run_alone settings) files in
+      let runs = map (shorter listed.cut) alone in
       let table = only-same prints.one.table (table_of options.of options.columns.items runs) (sym prints.one.only ∙ side.1.runs) in
-      let have = All-map (λ (r : Run). All (HasFile r) options.columns.items) (run_alone settings) files
-      (λ k d low. own-file settings options.columns.items (get_or files k d)) in (
+      let have = All-map (λ (r : Run). All (HasFile r) options.columns.items) (shorter listed.cut) alone
+      (All-map (λ (r : Run). All (HasFile (shorter listed.cut r)) options.columns.items) (run_alone settings) files
+      (λ k d low. own-file listed.cut settings options.columns.items (get_or files k d))) in (
         prints.one.side.unit,
         shown_table options.shown (table_of options.of options.columns.items runs),
         prints-parts prints.one.side.unit options.of options.columns.items runs options.shown text are have
-            (All-map IsOfLegal (run_alone settings) files (λ k d low. (settings.strict, journal_in_turn-legal settings (get_or files k d ∷ []))))
+            (All-map IsOfLegal (shorter listed.cut) alone (All-map (λ (r : Run). IsOfLegal (shorter listed.cut r)) (run_alone settings) files (λ k d low. (settings.strict, journal_in_turn-legal settings (get_or files k d ∷ [])))))
             (subst (λ t. IsPrint prints.one.side.unit text (shown_table options.shown t)) table prints.is),
       )
 
   -- that of added tables
   part-of_parts : SumsAreParts → ((own : Of) → All (λ column. goes_with own column ≡ true) options.columns.items → (options.columns.items ≡ []) ⊎ AreColumns own options.columns.items)
-      → MakesJson source Printed options names text → IsSomePart
+      → MakesJson source Printed options listed text → IsSomePart
   part-of_parts sums may prints =
       let parts = prints.one.is.parts in
-      let first = first-kind names prints.one.is.kind in
+      let first = first-kind listed.names.items prints.one.is.kind in
       let side = prints.one.is.is in
       let table = side.1.0 in
       let sum = with_sum parts table in
@@ -201,12 +203,12 @@ file-none options of columns suited own together = by (list_any is_file columns)
     by true e = absurd (true≢false (sym (ap₂ (λ apart add. not (apart || add)) together own) ∙ e))
 
 pub json-parts : TablesMayHaveThem → AddedTablesMayHaveThem → SumsAreParts → JsonLinesAreParts
-json-parts made added sums source words task files outcome asks rows is below = elim is.1 [
+json-parts made added sums source folders words task named outcome asks rows is below = elim is.1 [
   | inl ended ↦
-      let names = ended.1.0 in
+      let of = ended.1.2 in
       let text = outcome.output.items in
-      let prints = subst (λ asked. PrintsText source task.items task.options names asked text outcome.lines.items outcome.warnings.items) rows ended.1.2 in
-      by names prints.made asks.0.add (takes_apart asks.0) refl refl asks.2.3.1
+      let prints = subst (λ asked. PrintsText source task.items task.options of.base of.files asked text outcome.lines.items outcome.warnings.items) rows of.prints in
+      by of.files prints.made asks.0.add (takes_apart asks.0) refl refl asks.2.3.1
   | inr stopped ↦ absurd (omega (arith, stopped.0, below))
 ]
   where
@@ -220,16 +222,16 @@ json-parts made added sums source words task files outcome asks rows is below = 
     columns : options.add ≡ false → AreColumns task.options.of task.options.columns.items
     columns adds = subst (AreColumns task.options.of) (sym asks.2.3.3.1) (subst (λ (of : Of). AreColumns of asks.2.1) (sym asks.2.3.3.0) (made options asks.2.0 asks.2.1 asks.2.2 adds))
 
-    by : (names : List Name) → MakesJson source task.items task.options names outcome.output.items → (add apart : Bool) → options.add ≡ add → takes_apart options ≡ apart →
+    by : (listed : Listed) → MakesJson source task.items task.options listed outcome.output.items → (add apart : Bool) → options.add ≡ add → takes_apart options ≡ apart →
         task.items ≡ cond add Printed (cond apart (Apart (settings_of options)) (Together (settings_of options))) → (unit : TimeUnit) × (part : SpanTable) × IsPart unit outcome.output.items part
-    by names prints true apart adds takes items =
-        part-of_parts source task.options names outcome.output.items sums
+    by listed prints true apart adds takes items =
+        part-of_parts source task.options listed outcome.output.items sums
         (λ own. given asks.2.1 asks.2.3.3.1 own (λ goes. added options asks.2.0 own asks.2.1 asks.2.2 adds goes))
-        (subst (λ (i : Items). MakesJson source i task.options names outcome.output.items) items prints)
-    by names prints false true adds takes items =
-        part-of_files source task.options names outcome.output.items (settings_of options) (columns adds)
-        (subst (λ (i : Items). MakesJson source i task.options names outcome.output.items) items prints)
-    by names prints false false adds takes items =
-        part-of_run source task.options names outcome.output.items (settings_of options) (columns adds)
+        (subst (λ (i : Items). MakesJson source i task.options listed outcome.output.items) items prints)
+    by listed prints false true adds takes items =
+        part-of_files source task.options listed outcome.output.items (settings_of options) (columns adds)
+        (subst (λ (i : Items). MakesJson source i task.options listed outcome.output.items) items prints)
+    by listed prints false false adds takes items =
+        part-of_run source task.options listed outcome.output.items (settings_of options) (columns adds)
         (ap (list_any is_file) asks.2.3.3.1 ∙ file-none options asks.2.0 asks.2.1 asks.2.2.suited adds takes)
-        (subst (λ (i : Items). MakesJson source i task.options names outcome.output.items) items prints)
+        (subst (λ (i : Items). MakesJson source i task.options listed outcome.output.items) items prints)

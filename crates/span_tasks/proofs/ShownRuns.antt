@@ -1,10 +1,10 @@
 -- Files that are shown, one after another.
 use Rattle.std.specs.Prelude.{map, nat_le}
-use Rattle.std.proofs.{Common.{◌≡◌, ◌<◌, ◌≤◌, true, false, cond, List, [], ◌∷◌, ◌++◌, length, ap, sym, subst, arith}, lemmas.{Bool.Decides.nat_tests, List.map_push, Slice.Zip.AllZip-long}}
+use Rattle.std.proofs.{Common.{◌≡◌, ◌<◌, ℕ, ◌≤◌, true, false, cond, List, [], ◌∷◌, ◌++◌, length, ap, sym, subst, arith}, lemmas.{Bool.Decides.nat_tests, List.map_push, Slice.Zip.AllZip-long}}
 use Rattle.span_collect.proofs.{InTurn.Accounted.{AreAlike-in_turn, end_lines-in_turn, refusals_of-in_turn}, OneFile.AreSeparate-one}
 use Rattle.span_page.proofs.{RunsSoFar.Holds-alike, SamePages.{left_behind-follows, run_json-alike}}
 use Rattle.span_runs.proofs.GatheredFiles.{AreGathered-none, AreGathered-push}
-use Rattle.span_tasks.specs.{Input, Settings, ends_from, journal_in_turn, SpanColumn, BegunPage, Holds, ShownRun, TakesRun, FileRun, IsFileRun, AreInputs, IsInput, Name, SourceBytes, PageView, Pages.{AreHeld, ShowsFile, asked_for, shown_alone, shown_run, shown_runs}, declared.pages.ShownFiles.ShownFiles}
+use Rattle.span_tasks.specs.{Input, Settings, ends_from, journal_in_turn, SpanColumn, BegunPage, Holds, ShownRun, TakesRun, FileRun, IsFileRun, AreInputs, IsInput, Name, SourceBytes, shortened, PageView, Pages.{AreHeld, ShowsFile, asked_for, shown_alone, shown_run, shown_runs}, declared.pages.ShownFiles.ShownFiles}
 
 -- what was collected of a file may stand for the run in which its items stand in their order
 pub TakesRun-alone : (labels : List SpanColumn) (source : SourceBytes) (name : Name) (settings : Settings) (run : FileRun) (old new : BegunPage) →
@@ -23,20 +23,20 @@ TakesRun-alone labels source name settings run old new is takes runs holds =
     (left_behind-follows labels journal other alike)
     (takes runs holds)
 
-module _ (source : SourceBytes) (settings : Settings) (view : PageView) where
+module _ (source : SourceBytes) (cut : ℕ) (settings : Settings) (view : PageView) where
   -- no files
   pub AreHeld-none : (shown : ShownFiles) → asked_for view [] shown.summed.runs → shown.summed.said.lines.items ≡ [] → shown.summed.said.warnings.items ≡ [] → Holds settings.unit view.labels.items [] shown.page →
-      AreHeld (map (shown_alone settings)) source [] settings view shown
+      AreHeld (map (shown_alone settings)) source cut [] settings view shown
   AreHeld-none shown sum lines warnings runs = record {
-    sums = AreGathered-none source settings (λ runs. asked_for view runs shown.summed.runs) shown.summed.said sum lines warnings;
+    sums = AreGathered-none source settings (λ runs. shortened cut (asked_for view) runs shown.summed.runs) shown.summed.said sum lines warnings;
     runs = runs;
   }
 
   -- one more file
-  pub AreHeld-push : (names : List Name) (name : Name) (old new : ShownFiles) → AreHeld (map (shown_alone settings)) source names settings view old →
-      ShowsFile source name settings view old new → AreHeld (map (shown_alone settings)) source (names ++ name ∷ []) settings view new
+  pub AreHeld-push : (names : List Name) (name : Name) (old new : ShownFiles) → AreHeld (map (shown_alone settings)) source cut names settings view old →
+      ShowsFile source cut name settings view old new → AreHeld (map (shown_alone settings)) source cut (names ++ name ∷ []) settings view new
   AreHeld-push names name old new held shows = record {
-    sums = AreGathered-push source names name settings (asked_for view) old.summed new.summed held.sums shows.adds;
+    sums = AreGathered-push source names name settings (shortened cut (asked_for view)) old.summed new.summed held.sums shows.adds;
     runs = subst (λ (runs : List ShownRun). Holds settings.unit view.labels.items runs new.page) (sym (map_push (shown_alone settings) held.sums.files shows.adds.file))
         (shows.page (map (shown_alone settings) held.sums.files) held.runs);
   }
@@ -58,7 +58,7 @@ module _ (source : SourceBytes) (settings : Settings) (view : PageView) where
       no high = grind (arith, nat_tests)
 
   -- the runs of few files are shown
-  pub AreHeld-few : (names : List Name) (shown : ShownFiles) → length names ≤ 64 → AreHeld (map (shown_alone settings)) source names settings view shown → AreHeld (shown_runs settings) source names settings view shown
+  pub AreHeld-few : (names : List Name) (shown : ShownFiles) → length names ≤ 64 → AreHeld (map (shown_alone settings)) source cut names settings view shown → AreHeld (shown_runs settings) source cut names settings view shown
   AreHeld-few names shown few held = record {
     sums = held.sums;
     runs = subst (λ (runs : List ShownRun). Holds settings.unit view.labels.items runs shown.page)
@@ -66,7 +66,7 @@ module _ (source : SourceBytes) (settings : Settings) (view : PageView) where
   }
 
   -- those of many are not
-  pub AreHeld-many : (names : List Name) (shown : ShownFiles) → 64 < length names → AreHeld (λ files. []) source names settings view shown → AreHeld (shown_runs settings) source names settings view shown
+  pub AreHeld-many : (names : List Name) (shown : ShownFiles) → 64 < length names → AreHeld (λ files. []) source cut names settings view shown → AreHeld (shown_runs settings) source cut names settings view shown
   AreHeld-many names shown many held = record {
     sums = held.sums;
     runs = subst (λ (runs : List ShownRun). Holds settings.unit view.labels.items runs shown.page)

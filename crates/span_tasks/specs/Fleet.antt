@@ -1,13 +1,13 @@
 -- Files that are summed on many machines, and tables that are added in whatever groups.
 use Rattle.std.specs.{List.{AllZip, Sorted.IsPermutation}, Prelude.{◌≡◌, ◌⊎◌, Bool, true, false, List, [], ◌∷◌, ◌++◌, map, All, Contains, Some}}
 use Rattle.span_request.specs.declared.tasks.Items.TheVariants.{Apart as EachApart, Printed, Together}
-use Rattle.span_tasks.specs.{Bytes, Input, Settings, IsAccounted, run_alone, run_of_files, AreInputs, Name, SourceBytes, TimeUnit, Column, Of, Run, table_of, IsPrint, Wanted, shown_table, chosen, Items, TableOptions, Tabulations.MakesJson, Together.EndsWell, declared.together.TogetherRun.TogetherRun}
+use Rattle.span_tasks.specs.{Bytes, Input, Settings, IsAccounted, run_alone, run_of_files, AreInputs, Listed, shorter, SourceBytes, TimeUnit, Column, Of, Run, table_of, IsPrint, Wanted, shown_table, chosen, Items, TableOptions, Tabulations.MakesJson, Together.EndsWell, declared.together.TogetherRun.TogetherRun}
 
 mutual
   -- A run of the program that prints a table as JSON Lines: of files, each apart or together, or of tables that others printed.
   pub data Fleet : Type 0 where
-    of_files : SourceBytes → Bool → Settings → TableOptions → List Name → Fleet
-    of_printed : SourceBytes → TableOptions → List Name → Fleets → Fleet
+    of_files : SourceBytes → Bool → Settings → TableOptions → Listed → Fleet
+    of_printed : SourceBytes → TableOptions → Listed → Fleets → Fleet
 
   -- one such run or more
   pub data Fleets : Type 0 where
@@ -21,26 +21,26 @@ items_of false settings = Together settings
 abbrev mutual
   -- the fleet prints this text; where it adds tables, each name stands for what one of its parts prints
   pub Prints : Fleet → Bytes → Type 0
-  Prints (of_files source apart settings options names) text = MakesJson source (items_of apart settings) options names text
-  Prints (of_printed source options names parts) text = MakesJson source Printed options names text
-      × ((texts : List Bytes) × AllZip (λ name held. source name ≡ Some held) names texts × PrintEach parts texts)
+  Prints (of_files source apart settings options listed) text = MakesJson source (items_of apart settings) options listed text
+  Prints (of_printed source options listed parts) text = MakesJson source Printed options listed text
+      × ((texts : List Bytes) × AllZip (λ name held. source name ≡ Some held) listed.names.items texts × PrintEach parts texts)
 
   pub PrintEach : Fleets → List Bytes → Type 0
   PrintEach (one part) (text ∷ []) = Prints part text
   PrintEach (more part parts) (text ∷ texts) = Prints part text × PrintEach parts texts
   PrintEach parts texts = ⊥
 
--- the runs of the files of these names: of each alone, or of all together
-abbrev pub AreRunsOfFiles : SourceBytes → Bool → Settings → List Name → List Run → Type 0
-AreRunsOfFiles source true settings names runs = (files : List Input) × AreInputs source names files × All (IsAccounted settings) files × (runs ≡ map (run_alone settings) files)
-AreRunsOfFiles source false settings names runs = (run : TogetherRun) × EndsWell source names settings run
+-- the runs of these files: of each alone, or of all together
+abbrev pub AreRunsOfFiles : SourceBytes → Bool → Settings → Listed → List Run → Type 0
+AreRunsOfFiles source true settings listed runs = (files : List Input) × AreInputs source listed.names.items files × All (IsAccounted settings) files × (runs ≡ map (shorter listed.cut) (map (run_alone settings) files))
+AreRunsOfFiles source false settings listed runs = (run : TogetherRun) × EndsWell source listed.names.items settings run
     × (runs ≡ run_of_files run.inputs.items run.collected.end.ends.items run.collected.ledger.journal ∷ [])
 
 abbrev mutual
   -- the runs of all files of a fleet
   pub AreRunsOf : Fleet → List Run → Type 0
-  AreRunsOf (of_files source apart settings options names) runs = AreRunsOfFiles source apart settings names runs
-  AreRunsOf (of_printed source options names parts) runs = AreRunsOfEach parts runs
+  AreRunsOf (of_files source apart settings options listed) runs = AreRunsOfFiles source apart settings listed runs
+  AreRunsOf (of_printed source options listed parts) runs = AreRunsOfEach parts runs
 
   pub AreRunsOfEach : Fleets → List Run → Type 0
   AreRunsOfEach (one part) runs = AreRunsOf part runs
@@ -55,8 +55,8 @@ pub record TableKind : Type 0 where
 abbrev mutual
   -- the kind of what a fleet prints
   pub kind_of : Fleet → TableKind
-  kind_of (of_files source apart settings options names) = record { of = options.of; unit = settings.unit; columns = options.columns.items }
-  kind_of (of_printed source options names parts) = record { of = (kind_of_first parts).of; unit = (kind_of_first parts).unit; columns = chosen options.columns.items (kind_of_first parts).columns }
+  kind_of (of_files source apart settings options listed) = record { of = options.of; unit = settings.unit; columns = options.columns.items }
+  kind_of (of_printed source options listed parts) = record { of = (kind_of_first parts).of; unit = (kind_of_first parts).unit; columns = chosen options.columns.items (kind_of_first parts).columns }
 
   -- that of the first of some tables, which the others have too
   pub kind_of_first : Fleets → TableKind
@@ -75,8 +75,8 @@ abbrev mutual
   -- A fleet shows these rows: it is asked for them, of all rows of its parts; or each of the parts shows them, none of their columns is
   -- dropped, and it is asked for the same, or for all.
   pub Shows : Wanted → Fleet → Type 0
-  Shows wanted (of_files source apart settings options names) = options.shown ≡ wanted
-  Shows wanted (of_printed source options names parts) = ((options.shown ≡ wanted) × ShowEach all_rows parts)
+  Shows wanted (of_files source apart settings options listed) = options.shown ≡ wanted
+  Shows wanted (of_printed source options listed parts) = ((options.shown ≡ wanted) × ShowEach all_rows parts)
       ⊎ (((options.shown ≡ wanted) ⊎ (options.shown ≡ all_rows)) × KeepsColumns options parts × ShowEach wanted parts)
 
   pub ShowEach : Wanted → Fleets → Type 0

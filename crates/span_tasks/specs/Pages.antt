@@ -1,6 +1,6 @@
 -- A page of files each of which is a run of its own.
-use Rattle.std.specs.Prelude.{◌≡◌, ◌⊎◌, false, nat_le, if◌then◌else◌, List, [], ◌∷◌, ◌++◌, length, map, Result, MatchResult}
-use Rattle.span_tasks.specs.{Bytes, TooGreatFault, number_of, run_line, Unit, Input, Settings, ends_from, journal_in_turn, Holds, ShownRun, TakesRun, page_of_runs, FileRun, AddsFile, GathersFiles, IsSumOf, Halt, OfStop, StopsAfter, StopsAmong, Name, SourceBytes, PageView, Run, SpanTable, SummedTable, AllFit, json_fits, json_of, shown_table, warning_lines, Gathered, Warnings.absent_lines, declared.pages.ShownFiles.ShownFiles}
+use Rattle.std.specs.Prelude.{◌≡◌, ◌⊎◌, ℕ, false, nat_le, if◌then◌else◌, List, [], ◌∷◌, ◌++◌, length, map, Result, MatchResult}
+use Rattle.span_tasks.specs.{Bytes, TooGreatFault, number_of, run_line, Unit, Input, Settings, ends_from, journal_in_turn, Holds, ShownRun, TakesRun, page_of_runs, FileRun, AddsFile, GathersFiles, IsSumOf, Listed, shortened, Halt, OfStop, StopsAfter, StopsAmong, Name, SourceBytes, PageView, Run, SpanTable, SummedTable, AllFit, json_fits, json_of, shown_table, warning_lines, Gathered, Warnings.absent_lines, declared.pages.ShownFiles.ShownFiles}
 
 -- the run of a file alone, in which its items stand in their order, as a page shows it
 abbrev pub shown_alone : Settings → Input → ShownRun
@@ -20,28 +20,28 @@ page_with unit view table runs = page_of_runs unit view.labels.items (json_of un
 
 -- Each file was collected alone; the page of their runs, with the table of their sum, is printed, their lines are said, and then
 -- warnings: of them, and of columns of the table that no span has.
-pub record PrintsPage (source : SourceBytes) (names : List Name) (settings : Settings) (view : PageView) (text lines warnings : Bytes) : Type 0 where
+pub record PrintsPage (source : SourceBytes) (files : Listed) (settings : Settings) (view : PageView) (text lines warnings : Bytes) : Type 0 where
   pub summed : Gathered SummedTable
-  pub sums : GathersFiles source names settings (asked_for view) summed
+  pub sums : GathersFiles source files.names.items settings (shortened files.cut (asked_for view)) summed
   pub fits : AllFit (shown_table view.options.shown summed.runs.table)
   pub page : text ≡ page_with settings.unit view summed.runs.table (shown_runs settings sums.files)
   pub said : lines ≡ summed.said.lines.items
   pub warned : warnings ≡ warning_lines summed.said.warnings.items ++ absent_lines view.options.columns.items (summed.runs.table ∷ [])
 
 -- the files were summed, and a number of the table has more than 64 bits, as the line says
-pub record HasTooGreat (source : SourceBytes) (names : List Name) (settings : Settings) (view : PageView) (lines : Bytes) : Type 0 where
+pub record HasTooGreat (source : SourceBytes) (files : Listed) (settings : Settings) (view : PageView) (lines : Bytes) : Type 0 where
   pub summed : Gathered SummedTable
-  pub sums : GathersFiles source names settings (asked_for view) summed
+  pub sums : GathersFiles source files.names.items settings (shortened files.cut (asked_for view)) summed
   pub exceeds : json_fits view.options.shown summed.runs.table ≡ false
   pub said : lines ≡ run_line (number_of TooGreatFault)
 
 -- this is said where no page is printed
-abbrev pub StopsPage : SourceBytes → List Name → Settings → PageView → Bytes → Type 0
-StopsPage source names settings view lines = StopsAmong source settings names lines ⊎ HasTooGreat source names settings view lines
+abbrev pub StopsPage : SourceBytes → Listed → Settings → PageView → Bytes → Type 0
+StopsPage source files settings view lines = StopsAmong source settings files.names.items lines ⊎ HasTooGreat source files settings view lines
 
--- each of the files was collected alone, and is summed; the page has these runs of them so far
-pub record AreHeld (runs_of : List Input → List ShownRun) (source : SourceBytes) (names : List Name) (settings : Settings) (view : PageView) (shown : ShownFiles) : Type 0 where
-  pub sums : GathersFiles source names settings (asked_for view) shown.summed
+-- each of the files was collected alone, and is summed, with so much of its name left out; the page has these runs of them so far
+pub record AreHeld (runs_of : List Input → List ShownRun) (source : SourceBytes) (cut : ℕ) (names : List Name) (settings : Settings) (view : PageView) (shown : ShownFiles) : Type 0 where
+  pub sums : GathersFiles source names settings (shortened cut (asked_for view)) shown.summed
   pub runs : Holds settings.unit view.labels.items (runs_of sums.files) shown.page
 
 -- what was collected of a file, as a page shows it
@@ -49,10 +49,10 @@ abbrev pub shown_run : FileRun → ShownRun
 shown_run run = record { files = run.file ∷ []; ends = run.collected.end.ends.items; journal = run.collected.ledger.journal }
 
 -- one more file is shown
-pub record ShowsFile (source : SourceBytes) (name : Name) (settings : Settings) (view : PageView) (old new : ShownFiles) : Type 0 where
-  pub adds : AddsFile source name settings (asked_for view) old.summed new.summed
+pub record ShowsFile (source : SourceBytes) (cut : ℕ) (name : Name) (settings : Settings) (view : PageView) (old new : ShownFiles) : Type 0 where
+  pub adds : AddsFile source name settings (shortened cut (asked_for view)) old.summed new.summed
   pub page : TakesRun settings.unit view.labels.items (shown_alone settings adds.file) old.page new.page
 
 -- one more file is shown, or something stopped at it, or there are 2^32 or more
-abbrev pub AddsShown : SourceBytes → Name → Settings → PageView → ShownFiles → Result ShownFiles Halt → Type 0
-AddsShown source name settings view old result = MatchResult result (ShowsFile source name settings view old) (OfStop (StopsAfter source name settings (asked_for view) old.summed))
+abbrev pub AddsShown : SourceBytes → ℕ → Name → Settings → PageView → ShownFiles → Result ShownFiles Halt → Type 0
+AddsShown source cut name settings view old result = MatchResult result (ShowsFile source cut name settings view old) (OfStop (StopsAfter source name settings (shortened cut (asked_for view)) old.summed))

@@ -1,12 +1,12 @@
 -- What is printed as JSON Lines can be read back, and added.
 use Rattle.std.specs.Prelude.{◌≡◌, ◌⊎◌, ◌<◌, ◌≤◌, false, List, [], length, All, Contains, Some, None}
 use Rattle.span_request.specs.declared.tasks.{Items.TheVariants.Printed, Request.TheVariants.Run, TableText.TheVariants.Table, Task.TheVariants.Tabulate}
-use Rattle.span_tasks.specs.{AsksFor, Bytes, Column, IsPart, Json, Name, Named, Of, SourceBytes, SpanTable, TableOptions, Tabulation, TimeUnit, printed, unread_line, Added.{AreTooMany, most_added}, Requests.IsOutcome, Sides.StopsOneSide, declared.outcome.Outcome.Outcome}
+use Rattle.span_tasks.specs.{AsksFor, Bytes, Column, IsPart, Json, Name, Named, Of, SourceBytes, SourceFolders, SpanTable, TableOptions, Tabulation, TimeUnit, printed, unread_line, Added.{AreTooMany, most_added}, Requests.IsOutcome, Sides.StopsOneSide, declared.outcome.Outcome.Outcome}
 
 -- whatever words ask for JSON Lines: what is printed, unless something stopped, is a part
 abbrev pub JsonLinesAreParts : Type 0
-JsonLinesAreParts = (source : SourceBytes) (words : List Bytes) (task : Tabulation) (files : Named) (outcome : Outcome) → AsksFor words (Run (Tabulate task) files) → task.text ≡ Table Json
-    → IsOutcome source (Run (Tabulate task) files) outcome → outcome.status < 2 → (unit : TimeUnit) × (part : SpanTable) × IsPart unit outcome.output.items part
+JsonLinesAreParts = (source : SourceBytes) (folders : SourceFolders) (words : List Bytes) (task : Tabulation) (files : Named) (outcome : Outcome) → AsksFor words (Run (Tabulate task) files) → task.text ≡ Table Json
+    → IsOutcome source folders (Run (Tabulate task) files) outcome → outcome.status < 2 → (unit : TimeUnit) × (part : SpanTable) × IsPart unit outcome.output.items part
 
 -- the name stands for a part that sums this, in this unit and by these columns
 pub record HasPart (source : SourceBytes) (of : Of) (unit : TimeUnit) (columns : List Column) (name : Name) : Type 0 where

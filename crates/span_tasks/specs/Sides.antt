@@ -1,7 +1,7 @@
 -- Tables as they are gathered: those of one side, or of two that are compared.
 use Rattle.std.specs.Prelude.{◌≡◌, ◌⊎◌, ⊤, Bool, true, false, List, [], ◌∷◌, ◌++◌, map, Option, MatchResult, Result}
 use Rattle.span_request.specs.declared.tasks.Items.TheVariants.{Apart as EachApart, Printed, Together}
-use Rattle.span_tasks.specs.{Bytes, AreSeparate, Settings, warnings_of, AreGathered, Halt, OfStop, StopsAmong, run_in_turn, run_of_files, table_of_run, SourceBytes, Name, PartSum, Column, Of, Number, Run, SpanTable, picked, table_of, Items, TableOptions, Added.{Adds, AddsBeside, AddsEach, AreOfFirst, AreTooMany, BeginsWith, StopsFirst, StopsNext}, Together.{EndsWell, StopsTogether}, declared.{printed.PrintedBase.PrintedBase, side.Side.Side, together.TogetherRun.TogetherRun}}
+use Rattle.span_tasks.specs.{Bytes, AreSeparate, Settings, warnings_of, AreGathered, shortened, Listed, Halt, OfStop, StopsAmong, run_in_turn, run_of_files, table_of_run, SourceBytes, Name, PartSum, Column, Of, Number, Run, SpanTable, picked, table_of, Items, TableOptions, Added.{Adds, AddsBeside, AddsEach, AreOfFirst, AreTooMany, BeginsWith, StopsFirst, StopsNext}, Together.{EndsWell, StopsTogether}, declared.{printed.PrintedBase.PrintedBase, side.Side.Side, together.TogetherRun.TogetherRun}}
 
 -- one table of all runs, or a table of each
 abbrev pub ComeTo : Bool → Of → List Column → List Run → List SpanTable → Type 0
@@ -61,12 +61,16 @@ pub record AreOfParts (parts : PartSum) (side : Side) : Type 0 where
   pub of : side.of ≡ parts.of
   pub columns : side.columns.items ≡ picked parts.places parts.columns
 
+-- these are the tables of printed ones, of which nothing is said
+abbrev pub IsPrintedSide : SourceBytes → Bool → PartSum → List Name → Side → Type 0
+IsPrintedSide source each parts names side = AreOfParts parts side × AddTo each source parts names side.tables.items × (side.said.lines.items ≡ [])
+
 -- what is named gives these tables; where they are printed ones, they are of the kind of these parts
-abbrev pub IsSide : SourceBytes → Items → TableOptions → Bool → PartSum → List Name → Side → Type 0
-IsSide source (Together settings) options each parts names side = AreOptions settings options side × IsOfRun source names settings options side
-IsSide source (EachApart settings) options each parts names side = AreOptions settings options side
-    × AreGathered source names settings (λ runs. ComeTo each options.of options.columns.items runs side.tables.items) side.said
-IsSide source Printed options each parts names side = AreOfParts parts side × AddTo each source parts names side.tables.items × (side.said.lines.items ≡ [])
+abbrev pub IsSide : SourceBytes → Items → TableOptions → Bool → PartSum → Listed → Side → Type 0
+IsSide source (Together settings) options each parts files side = AreOptions settings options side × IsOfRun source files.names.items settings options side
+IsSide source (EachApart settings) options each parts files side = AreOptions settings options side
+    × AreGathered source files.names.items settings (λ runs. shortened files.cut (ComeTo each options.of options.columns.items) runs side.tables.items) side.said
+IsSide source Printed options each parts files side = IsPrintedSide source each parts files.names.items side
 
 -- the first of printed tables is of this kind, and has the columns and the number that are asked for
 abbrev pub AreOfKind : SourceBytes → Items → TableOptions → Option Number → List Name → PartSum → Type 0
@@ -80,17 +84,17 @@ StopsSide source (EachApart settings) each parts names lines = StopsAmong source
 StopsSide source Printed each parts names lines = StopsLater source each parts names lines ⊎ AreTooMany names lines
 
 -- one side
-pub record IsOneSide (source : SourceBytes) (items : Items) (options : TableOptions) (by : Option Number) (each : Bool) (names : List Name) (side : Side) : Type 0 where
+pub record IsOneSide (source : SourceBytes) (items : Items) (options : TableOptions) (by : Option Number) (each : Bool) (files : Listed) (side : Side) : Type 0 where
   pub parts : PartSum
-  pub kind : AreOfKind source items options by names parts
-  pub is : IsSide source items options each parts names side
+  pub kind : AreOfKind source items options by files.names.items parts
+  pub is : IsSide source items options each parts files side
 
 -- two sides, which give tables of one kind
-pub record AreSides (source : SourceBytes) (items : Items) (options : TableOptions) (by : Option Number) (each : Bool) (base_names names : List Name) (base other : Side) : Type 0 where
+pub record AreSides (source : SourceBytes) (items : Items) (options : TableOptions) (by : Option Number) (each : Bool) (base_files files : Listed) (base other : Side) : Type 0 where
   pub parts : PartSum
-  pub kind : AreOfKind source items options by base_names parts
-  pub earlier : IsSide source items options each parts base_names base
-  pub later : IsSide source items options each parts names other
+  pub kind : AreOfKind source items options by base_files.names.items parts
+  pub earlier : IsSide source items options each parts base_files base
+  pub later : IsSide source items options each parts files other
 
 -- the first of printed tables tells the kind, or this is said of it, or of their number
 abbrev pub StopsKind : SourceBytes → Items → TableOptions → Option Number → List Name → Bytes → Type 0
@@ -103,20 +107,21 @@ StopsOneSide source items options by each names lines = StopsKind source items o
     ⊎ ((parts : PartSum) × AreOfKind source items options by names parts × StopsSide source items each parts names lines)
 
 -- the base gives tables, and the others don't, of which this is said behind the base's lines
-pub record StopsBehind (source : SourceBytes) (items : Items) (options : TableOptions) (by : Option Number) (each : Bool) (base_names names : List Name) (lines : Bytes) : Type 0 where
+pub record StopsBehind (source : SourceBytes) (items : Items) (options : TableOptions) (by : Option Number) (each : Bool) (base_files files : Listed) (lines : Bytes) : Type 0 where
   pub parts : PartSum
-  pub kind : AreOfKind source items options by base_names parts
+  pub kind : AreOfKind source items options by base_files.names.items parts
   pub base : Side
-  pub earlier : IsSide source items options each parts base_names base
+  pub earlier : IsSide source items options each parts base_files base
   pub own : Bytes
-  pub later : StopsSide source items each parts names own
+  pub later : StopsSide source items each parts files.names.items own
   pub said : lines ≡ base.said.lines.items ++ own
 
 -- this is said where one of two sides gives no tables
-abbrev pub StopSides : SourceBytes → Items → TableOptions → Option Number → Bool → List Name → List Name → Bytes → Type 0
-StopSides source items options by each base_names names lines = StopsOneSide source items options by each base_names lines ⊎ StopsBehind source items options by each base_names names lines
+abbrev pub StopSides : SourceBytes → Items → TableOptions → Option Number → Bool → Listed → Listed → Bytes → Type 0
+StopSides source items options by each base_files files lines =
+    StopsOneSide source items options by each base_files.names.items lines ⊎ StopsBehind source items options by each base_files files lines
 
 -- printed tables are of the kind of these parts, which is the one that is asked for
 pub record IsPrintedBase (source : SourceBytes) (options : TableOptions) (by : Option Number) (each : Bool) (names : List Name) (base : PrintedBase) : Type 0 where
   pub asked : AreOfFirst source options.columns.items by names base.kind
-  pub is : IsSide source Printed options each base.kind names base.side
+  pub is : IsPrintedSide source each base.kind names base.side

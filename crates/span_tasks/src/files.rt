@@ -1,8 +1,10 @@
-//! The real files and standard input.
+//! The real files, folders and standard input.
 ghost use Rattle.std.specs.Prelude.{◌≤◌, IfOk, vec_len};
 
 use crate::reading::{read_up_to, reason_of};
-use span_runs::{Name, Reason, Source, SourceFault};
+use crate::walk::files_below;
+use span_event::Text;
+use span_runs::{FolderFault, Name, Reason, Source, SourceFault};
 use std::fs::{File, metadata};
 use std::io;
 use std::io::Read;
@@ -32,7 +34,7 @@ pub struct Unwatched;
 
 impl Watcher for Unwatched {}
 
-/// The real files and standard input, which can be read once.
+/// The real files and folders, and standard input, which can be read once.
 #[derive(Drop)]
 pub struct Files<'a, W> {
     rt: &'a HostRuntime,
@@ -43,9 +45,20 @@ pub struct Files<'a, W> {
 
 impl<'a, W: Watcher> Source for Files<'a, W> {
     ghost use Rattle.std.specs.Prelude.{None};
+    ghost use Rattle.span_tasks.specs.{unknown};
 
-    // What files hold isn't known.
+    // What files hold isn't known, nor what folders do.
     ghost bytes = { λ files name. None };
+
+    ghost folders = { λ files ending path. unknown };
+
+    fn files_below(&self, path: &Text, ending: &str) -> Result<Option<Vec<Text>>, FolderFault> {
+        match metadata(self.rt, path.as_str()) {
+            Ok(metadata) if metadata.is_dir() => {}
+            _ => return Ok(None),
+        }
+        Ok(Some(files_below(self.rt, path, ending)?))
+    }
 
     fn read(&self, name: &Name, most: u64) -> Result<Vec<u8>, SourceFault> {
         match name {

@@ -16,6 +16,7 @@ mod sides;
 mod tabulation;
 mod texts;
 mod together;
+mod walk;
 mod warnings;
 
 pub use files::{Files, Unwatched, Watcher};
@@ -29,6 +30,6 @@ pub use span_request::{
     Changes, ComparisonForm, DEFAULT_SETTINGS, Items, PageView, RepeatsForm, Repetitions, Request,
     TableForm, TableOptions, TableText, Tabulation, Task, View,
 };
-pub use span_runs::{Name, Named, Reason, Source, SourceFault};
+pub use span_runs::{FolderFault, Name, Named, Reason, Source, SourceFault};
 pub use span_table::{Column, Number, Of};
 pub use span_table_text::Shown;

@@ -12,7 +12,7 @@ use span_event::Unit;
 use span_names::HashKeys;
 use span_page::RunsPage;
 use span_request::{PageView, TableForm};
-use span_runs::{FileRun, Gathered, Halt, Name, Source, collect_file};
+use span_runs::{FileRun, Gathered, Halt, Listed, Name, Source, collect_file};
 use span_table::{Table, TableSum};
 use std::alloc::AllocError;
 use std::random::RandomSource;
@@ -38,14 +38,14 @@ impl<'a, R: Threads + Wait + RandomSource + Sync, S: Source + Sync> Place<'a, R,
         &self,
         apart: Apart,
         view: &PageView,
-        names: &[Name],
+        files: &Listed,
     ) -> Result<Print, Halt>
         ensures { PrintsOrStops
-            (PrintsPage (S.bytes self.now.source.now) names.now apart.settings view.now)
-            (StopsPage (S.bytes self.now.source.now) names.now apart.settings view.now) result }
+            (PrintsPage (S.bytes self.now.source.now) files.now apart.settings view.now)
+            (StopsPage (S.bytes self.now.source.now) files.now apart.settings view.now) result }
     {
-        self.source.begin_apart(names.len() as u64);
-        let shown = match self.show_files(apart, view, names) {
+        self.source.begin_apart(files.names.len() as u64);
+        let shown = match self.show_files(apart, view, files) {
             Ok(shown) => shown,
             Err(halt) => return Err(halt),
         };
@@ -68,29 +68,30 @@ impl<'a, R: Threads + Wait + RandomSource + Sync, S: Source + Sync> Place<'a, R,
         }
     }
 
-    fn show_files(&self, apart: Apart, view: &PageView, names: &[Name]) -> Result<ShownFiles, Halt>
+    fn show_files(&self, apart: Apart, view: &PageView, files: &Listed) -> Result<ShownFiles, Halt>
         ensures shown { IfOk result (AreHeld (shown_runs apart.settings)
-            (S.bytes self.now.source.now) names.now apart.settings view.now) }
+            (S.bytes self.now.source.now) files.now.cut files.now.names.items apart.settings view.now) }
         ensures stop { IfErr result
-            (OfStop (StopsAmong (S.bytes self.now.source.now) apart.settings names.now)) }
+            (OfStop (StopsAmong (S.bytes self.now.source.now) apart.settings files.now.names.items)) }
     {
+        let names = files.names.as_slice();
         if names.len() <= MOST_SHOWN {
-            return self.show_in_turn(&apart.settings, view, names);
+            return self.show_in_turn(&apart.settings, view, names, files.cut);
         }
-        self.show_sum(apart, view, names)
+        self.show_sum(apart, view, files)
     }
 
     // The sum of files alone.
-    fn show_sum(&self, apart: Apart, view: &PageView, names: &[Name]) -> Result<ShownFiles, Halt>
-        ensures shown { IfOk result (AreHeld (λ files. [])
-            (S.bytes self.now.source.now) names.now apart.settings view.now) }
+    fn show_sum(&self, apart: Apart, view: &PageView, files: &Listed) -> Result<ShownFiles, Halt>
+        ensures shown { IfOk result (AreHeld (λ inputs. [])
+            (S.bytes self.now.source.now) files.now.cut files.now.names.items apart.settings view.now) }
         ensures stop { IfErr result
-            (OfStop (StopsAmong (S.bytes self.now.source.now) apart.settings names.now)) }
+            (OfStop (StopsAmong (S.bytes self.now.source.now) apart.settings files.now.names.items)) }
     {
         let Ok(page) = RunsPage::begin(self.alloc) else {
             return Err(Halt::Memory);
         };
-        match self.gather(&apart, &view.options, names) {
+        match self.gather(&apart, &view.options, files) {
             Ok(summed) => Ok(ShownFiles {
                 keys: HashKeys::random(self.rt),
                 summed,
@@ -106,9 +107,10 @@ impl<'a, R: Threads + Wait + RandomSource + Sync, S: Source + Sync> Place<'a, R,
         settings: &Settings,
         view: &PageView,
         names: &[Name],
+        cut: usize,
     ) -> Result<ShownFiles, Halt>
         ensures shown { IfOk result (AreHeld (map (shown_alone settings.now))
-            (S.bytes self.now.source.now) names.now settings.now view.now) }
+            (S.bytes self.now.source.now) cut names.now settings.now view.now) }
         ensures stop { IfErr result
             (OfStop (StopsAmong (S.bytes self.now.source.now) settings.now names.now)) }
     {
@@ -117,7 +119,7 @@ impl<'a, R: Threads + Wait + RandomSource + Sync, S: Source + Sync> Place<'a, R,
             Err(_) => return Err(Halt::Memory),
         };
         for name in names {
-            shown = match self.show_file(settings, view, name, shown) {
+            shown = match self.show_file(settings, view, name, cut, shown) {
                 Ok(more) => more,
                 Err(halt) => return Err(halt),
             };
@@ -141,15 +143,16 @@ impl<'a, R: Threads + Wait + RandomSource + Sync, S: Source + Sync> Place<'a, R,
         })
     }
 
-    // With the file of this name.
+    // With the file of this name, of which the column of files leaves out so many bytes.
     fn show_file(
         &self,
         settings: &Settings,
         view: &PageView,
         name: &Name,
+        cut: usize,
         shown: ShownFiles,
     ) -> Result<ShownFiles, Halt>
-        ensures { AddsShown (S.bytes self.now.source.now) name.now settings.now view.now shown
+        ensures { AddsShown (S.bytes self.now.source.now) cut name.now settings.now view.now shown
             result }
     {
         let ShownFiles { keys, summed, page } = shown;
@@ -159,6 +162,9 @@ impl<'a, R: Threads + Wait + RandomSource + Sync, S: Source + Sync> Place<'a, R,
                 let Gathered { said, .. } = summed;
                 return Err(halt.after(said.lines));
             }
+        };
+        let Ok(taken) = taken.shorter(self.alloc, cut) else {
+            return Err(Halt::Memory);
         };
         let Ok(page) = self.with_run(settings.unit, view, page, &taken) else {
             return Err(Halt::Memory);

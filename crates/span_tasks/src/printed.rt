@@ -10,7 +10,7 @@ use crate::sides::{Sides, Wanted};
 use span_event::Fault;
 use span_names::HashKeys;
 use span_parts::Parts;
-use span_runs::{Halt, Name, Said, Source};
+use span_runs::{Halt, Listed, Name, Said, Source};
 use span_table::{Table, copies_of};
 use std::alloc::{AllocError, Global};
 use std::random::RandomSource;
@@ -39,21 +39,21 @@ impl<'a, R: Threads + Wait + RandomSource + Sync, S: Source + Sync> Place<'a, R,
     pub(crate) fn printed_sides(
         &self,
         wanted: Wanted,
-        base: &[Name],
-        names: &[Name],
+        base: &Listed,
+        files: &Listed,
     ) -> Result<Sides, Halt>
         ensures sides { IfOk result (λ sides. AreSides (S.bytes self.now.source.now) Printed
-            wanted.entry.options.now wanted.entry.by wanted.entry.each base.now names.now sides.base sides.other) }
+            wanted.entry.options.now wanted.entry.by wanted.entry.each base.now files.now sides.base sides.other) }
         ensures base_hints { IfOk result (λ sides. IsHint sides.base.hints.items) }
         ensures hints { IfOk result (λ sides. IsHint sides.other.hints.items) }
         ensures stop { IfErr result (OfStop (StopSides (S.bytes self.now.source.now) Printed
-            wanted.entry.options.now wanted.entry.by wanted.entry.each base.now names.now)) }
+            wanted.entry.options.now wanted.entry.by wanted.entry.each base.now files.now)) }
     {
-        let printed = match self.printed_base(wanted, base) {
+        let printed = match self.printed_base(wanted, &base.names) {
             Ok(printed) => printed,
             Err(halt) => return Err(halt),
         };
-        if names.len() as u64 >= TABLES {
+        if files.names.len() as u64 >= TABLES {
             return Err(Halt::of_run(self.alloc, Fault::FileCount.code()));
         }
         let PrintedBase { kind, side: base } = printed;
@@ -61,7 +61,7 @@ impl<'a, R: Threads + Wait + RandomSource + Sync, S: Source + Sync> Place<'a, R,
             each: wanted.each,
             keys: HashKeys::random(self.rt),
         };
-        let tables = match self.tables_of_kind(taking, &kind, names) {
+        let tables = match self.tables_of_kind(taking, &kind, &files.names) {
             Ok(tables) => tables,
             Err(halt) => return Err(halt),
         };

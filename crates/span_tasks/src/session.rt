@@ -30,7 +30,7 @@ impl<'a, R: Threads + Wait + RandomSource + Sync, S: Source + Sync, O: Sink, L: 
     /// Does what the words ask for, which leave out the program's own name. The exit status is that of `perform`.
     pub fn perform_words(&mut self, words: Vec<Text>) -> u8
         ensures status { result ≤ 2 }
-        ensures delivers { DeliversOne (IsAsked (S.bytes self.old.place.source.now) words.items)
+        ensures delivers { DeliversOne (IsAsked (S.bytes self.old.place.source.now) (S.folders self.old.place.source.now) words.items)
             result (record { output = O.state self.old.output; lines = L.state self.old.lines })
             (record { output = O.state self.new.output; lines = L.state self.new.lines }) }
     {
@@ -48,7 +48,7 @@ impl<'a, R: Threads + Wait + RandomSource + Sync, S: Source + Sync, O: Sink, L: 
     /// which each file of a run has one.
     pub fn perform(&mut self, request: Request) -> u8
         ensures status { result ≤ 2 }
-        ensures delivers { DeliversOne (IsOutcome (S.bytes self.old.place.source.now) request) result
+        ensures delivers { DeliversOne (IsOutcome (S.bytes self.old.place.source.now) (S.folders self.old.place.source.now) request) result
             (record { output = O.state self.old.output; lines = L.state self.old.lines })
             (record { output = O.state self.new.output; lines = L.state self.new.lines }) }
     {

@@ -1,7 +1,7 @@
 //! The tables of one side, as they are gathered.
 ghost use Rattle.std.specs.Prelude.{◌≡◌, ◌∷◌, ◌++◌, [], true, false, length, IfErr, IfOk};
 ghost use Rattle.span_runs.specs.declared.stop.Halt.TheVariants.{Memory};
-ghost use Rattle.span_tasks.specs.{AreGathered, GathersOrStops, IsHint, OfStop, StopsAmong, run_of_files, table_of_run, warnings_of, Sides.{AreOptions, ComeTo, IsOfRun}, Together.StopsTogether};
+ghost use Rattle.span_tasks.specs.{AreGathered, GathersOrStops, IsHint, shortened, OfStop, StopsAmong, run_of_files, table_of_run, warnings_of, Sides.{AreOptions, ComeTo, IsOfRun}, Together.StopsTogether};
 
 use crate::place::Place;
 use crate::together::TogetherRun;
@@ -9,7 +9,9 @@ use span_collect::Settings;
 use span_collect::refusals::warnings_of;
 use span_event::Unit;
 use span_request::TableOptions;
-use span_runs::{Gathered, Gathering, Halt, Name, Said, Source, Stop, gather_apart, table_of_run};
+use span_runs::{
+    Gathered, Gathering, Halt, Listed, Name, Said, Source, Stop, gather_apart, table_of_run,
+};
 use span_table::{Column, Of, Table, TableSum, copies_of};
 use std::alloc::{AllocError, Global};
 use std::random::RandomSource;
@@ -136,17 +138,17 @@ impl<'a, R: Threads + Wait + RandomSource + Sync, S: Source + Sync> Place<'a, R,
         &self,
         apart: &Apart,
         options: &TableOptions,
-        names: &[Name],
+        files: &Listed,
     ) -> Result<Side, Halt>
         ensures side { IfOk result (λ side. AreOptions apart.now.settings options.now side
-            × AreGathered (S.bytes self.now.source.now) names.now apart.now.settings
-            (λ runs. ComeTo false options.now.of options.now.columns.items runs side.tables.items)
-            side.said) }
+            × AreGathered (S.bytes self.now.source.now) files.now.names.items apart.now.settings
+            (λ runs. shortened files.now.cut (ComeTo false options.now.of options.now.columns.items)
+            runs side.tables.items) side.said) }
         ensures hints { IfOk result (λ side. IsHint side.hints.items) }
         ensures stop { IfErr result
-            (OfStop (StopsAmong (S.bytes self.now.source.now) apart.now.settings names.now)) }
+            (OfStop (StopsAmong (S.bytes self.now.source.now) apart.now.settings files.now.names.items)) }
     {
-        let summed: Gathered<TableSum> = match self.gather(apart, options, names) {
+        let summed: Gathered<TableSum> = match self.gather(apart, options, files) {
             Ok(summed) => summed,
             Err(halt) => return Err(halt),
         };
@@ -165,17 +167,17 @@ impl<'a, R: Threads + Wait + RandomSource + Sync, S: Source + Sync> Place<'a, R,
         &self,
         apart: &Apart,
         options: &TableOptions,
-        names: &[Name],
+        files: &Listed,
     ) -> Result<Side, Halt>
         ensures side { IfOk result (λ side. AreOptions apart.now.settings options.now side
-            × AreGathered (S.bytes self.now.source.now) names.now apart.now.settings
-            (λ runs. ComeTo true options.now.of options.now.columns.items runs side.tables.items)
-            side.said) }
+            × AreGathered (S.bytes self.now.source.now) files.now.names.items apart.now.settings
+            (λ runs. shortened files.now.cut (ComeTo true options.now.of options.now.columns.items)
+            runs side.tables.items) side.said) }
         ensures hints { IfOk result (λ side. IsHint side.hints.items) }
         ensures stop { IfErr result
-            (OfStop (StopsAmong (S.bytes self.now.source.now) apart.now.settings names.now)) }
+            (OfStop (StopsAmong (S.bytes self.now.source.now) apart.now.settings files.now.names.items)) }
     {
-        let tables: Gathered<Vec<Table>> = match self.gather(apart, options, names) {
+        let tables: Gathered<Vec<Table>> = match self.gather(apart, options, files) {
             Ok(tables) => tables,
             Err(halt) => return Err(halt),
         };
@@ -216,16 +218,17 @@ impl<'a, R: Threads + Wait + RandomSource + Sync, S: Source + Sync> Place<'a, R,
         &self,
         apart: &Apart,
         options: &TableOptions,
-        names: &[Name],
+        files: &Listed,
     ) -> Result<Gathered<T>, Halt>
-        ensures { GathersOrStops (S.bytes self.now.source.now) names.now apart.now.settings
-            (T.come_to options.now.of options.now.columns.items) result }
+        ensures { GathersOrStops (S.bytes self.now.source.now) files.now.names.items
+            apart.now.settings
+            (shortened files.now.cut (T.come_to options.now.of options.now.columns.items)) result }
     {
         gather_apart(
             self.rt,
             self.alloc,
             self.source,
-            names,
+            files,
             &apart.settings,
             options.of,
             &options.columns,

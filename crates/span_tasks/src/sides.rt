@@ -1,12 +1,12 @@
 //! The tables that a text is made of: those of one side, or of two.
 ghost use Rattle.std.specs.Prelude.{IfErr, IfOk};
-ghost use Rattle.span_tasks.specs.{AreGathered, IsHint, OfStop, StopsAmong, Sides.{AreOptions, AreSides, ComeTo, IsOneSide, StopSides, StopsOneSide}};
+ghost use Rattle.span_tasks.specs.{AreGathered, IsHint, shortened, OfStop, StopsAmong, Sides.{AreOptions, AreSides, ComeTo, IsOneSide, StopSides, StopsOneSide}};
 
 use crate::place::Place;
 use crate::side::{Apart, Side};
 use span_collect::Settings;
 use span_request::{Items, TableOptions};
-use span_runs::{Halt, Name, Source};
+use span_runs::{Halt, Listed, Source};
 use span_table::Number;
 use std::random::RandomSource;
 use std::sync::Wait;
@@ -31,23 +31,27 @@ pub(crate) struct Sides {
 
 impl<'a, R: Threads + Wait + RandomSource + Sync, S: Source + Sync> Place<'a, R, S> {
     /// The tables of what is named.
-    pub(crate) fn one_side(&self, wanted: Wanted, names: &[Name]) -> Result<Side, Halt>
+    pub(crate) fn one_side(&self, wanted: Wanted, files: &Listed) -> Result<Side, Halt>
         ensures side { IfOk result (IsOneSide (S.bytes self.now.source.now) wanted.entry.items
-            wanted.entry.options.now wanted.entry.by wanted.entry.each names.now) }
+            wanted.entry.options.now wanted.entry.by wanted.entry.each files.now) }
         ensures hints { IfOk result (λ side. IsHint side.hints.items) }
         ensures stop { IfErr result (OfStop (StopsOneSide (S.bytes self.now.source.now) wanted.entry.items
-            wanted.entry.options.now wanted.entry.by wanted.entry.each names.now)) }
+            wanted.entry.options.now wanted.entry.by wanted.entry.each files.now.names.items)) }
     {
         match wanted.items {
-            Items::Together(settings) => match self.run_side(&settings, wanted.options, names) {
+            Items::Together(settings) => match self.run_side(
+                &settings,
+                wanted.options,
+                &files.names,
+            ) {
                 Ok(side) => Ok(side),
                 Err(halt) => Err(halt),
             },
-            Items::Apart(settings) => match self.apart_side(settings, wanted, names) {
+            Items::Apart(settings) => match self.apart_side(settings, wanted, files) {
                 Ok(side) => Ok(side),
                 Err(halt) => Err(halt),
             },
-            Items::Printed => match self.printed_base(wanted, names) {
+            Items::Printed => match self.printed_base(wanted, &files.names) {
                 Ok(printed) => Ok(printed.side),
                 Err(halt) => Err(halt),
             },
@@ -55,47 +59,47 @@ impl<'a, R: Threads + Wait + RandomSource + Sync, S: Source + Sync> Place<'a, R,
     }
 
     // The tables of files each of which is a run of its own.
-    fn apart_side(&self, settings: Settings, wanted: Wanted, names: &[Name]) -> Result<Side, Halt>
+    fn apart_side(&self, settings: Settings, wanted: Wanted, files: &Listed) -> Result<Side, Halt>
         ensures side { IfOk result (λ side. AreOptions settings wanted.entry.options.now side
-            × AreGathered (S.bytes self.now.source.now) names.now settings
-            (λ runs. ComeTo wanted.entry.each wanted.entry.options.now.of
-            wanted.entry.options.now.columns.items runs side.tables.items) side.said) }
+            × AreGathered (S.bytes self.now.source.now) files.now.names.items settings
+            (λ runs. shortened files.now.cut (ComeTo wanted.entry.each wanted.entry.options.now.of
+            wanted.entry.options.now.columns.items) runs side.tables.items) side.said) }
         ensures hints { IfOk result (λ side. IsHint side.hints.items) }
         ensures stop { IfErr result
-            (OfStop (StopsAmong (S.bytes self.now.source.now) settings names.now)) }
+            (OfStop (StopsAmong (S.bytes self.now.source.now) settings files.now.names.items)) }
     {
         let apart = Apart {
             settings,
             jobs: wanted.jobs,
         };
         if wanted.each {
-            return self.each_side(&apart, wanted.options, names);
+            return self.each_side(&apart, wanted.options, files);
         }
-        self.sum_side(&apart, wanted.options, names)
+        self.sum_side(&apart, wanted.options, files)
     }
 
     /// The tables of the base, and then those of the others, of the same kind.
     pub(crate) fn both_sides(
         &self,
         wanted: Wanted,
-        base: &[Name],
-        names: &[Name],
+        base: &Listed,
+        files: &Listed,
     ) -> Result<Sides, Halt>
         ensures sides { IfOk result (λ sides. AreSides (S.bytes self.now.source.now) wanted.entry.items
-            wanted.entry.options.now wanted.entry.by wanted.entry.each base.now names.now sides.base sides.other) }
+            wanted.entry.options.now wanted.entry.by wanted.entry.each base.now files.now sides.base sides.other) }
         ensures base_hints { IfOk result (λ sides. IsHint sides.base.hints.items) }
         ensures hints { IfOk result (λ sides. IsHint sides.other.hints.items) }
         ensures stop { IfErr result (OfStop (StopSides (S.bytes self.now.source.now) wanted.entry.items
-            wanted.entry.options.now wanted.entry.by wanted.entry.each base.now names.now)) }
+            wanted.entry.options.now wanted.entry.by wanted.entry.each base.now files.now)) }
     {
         if let Items::Printed = wanted.items {
-            return self.printed_sides(wanted, base, names);
+            return self.printed_sides(wanted, base, files);
         }
         let base = match self.one_side(wanted, base) {
             Ok(base) => base,
             Err(halt) => return Err(halt),
         };
-        match self.one_side(wanted, names) {
+        match self.one_side(wanted, files) {
             Ok(other) => Ok(Sides { base, other }),
             Err(Halt::Memory) => Err(Halt::Memory),
             Err(Halt::Stopped(stop)) => match base.before(stop) {

@@ -12,7 +12,7 @@ use crate::texts::TableTexts;
 use crate::warnings::Tabled;
 use span_event::{Fault, Unit};
 use span_request::{Changes, ComparisonForm, Items, Repetitions, TableForm, TableText, Tabulation};
-use span_runs::{Halt, Name, Source};
+use span_runs::{Halt, Listed, Name, Source};
 use span_table::Table;
 use std::alloc::Global;
 use std::random::RandomSource;
@@ -23,25 +23,37 @@ use std::thread::Threads;
 const MOST_REPETITIONS: usize = 64;
 
 impl<'a, R: Threads + Wait + RandomSource + Sync, S: Source + Sync> Place<'a, R, S> {
-    /// What is printed of the tables of what is named.
-    pub(crate) fn print_tables(&self, task: &Tabulation, names: &[Name]) -> Result<Print, Halt>
-        ensures { PrintsOrStops (Tabulates (S.bytes self.now.source.now) task.now names.now)
-            (StopsTabulating (S.bytes self.now.source.now) task.now names.now) result }
+    /// What is printed of the tables of these files, and of those of a base, if there is one.
+    pub(crate) fn print_tables(
+        &self,
+        task: &Tabulation,
+        base: &Listed,
+        files: &Listed,
+    ) -> Result<Print, Halt>
+        ensures { PrintsOrStops
+            (Tabulates (S.bytes self.now.source.now) task.now base.now files.now)
+            (StopsTabulating (S.bytes self.now.source.now) task.now base.now files.now) result }
     {
         match &task.text {
-            TableText::Table(form) => self.print_table(task, *form, names),
-            TableText::Changes(asked) => self.print_changes(task, asked, names),
-            TableText::Repetitions(asked) => self.print_repetitions(task, asked, names),
+            TableText::Table(form) => self.print_table(task, *form, base, files),
+            TableText::Changes(asked) => self.print_changes(task, asked, base, files),
+            TableText::Repetitions(asked) => self.print_repetitions(task, asked, base, files),
         }
     }
 
-    fn print_table(&self, task: &Tabulation, form: TableForm, names: &[Name]) -> Result<Print, Halt>
+    fn print_table(
+        &self,
+        task: &Tabulation,
+        form: TableForm,
+        base: &Listed,
+        files: &Listed,
+    ) -> Result<Print, Halt>
         ensures { PrintsOrStops (PrintsText (S.bytes self.now.source.now) task.now.items
-            task.now.options names.now (OfTable form))
-            (StopsTabulation (S.bytes self.now.source.now) task.now.items task.now.options names.now
-            (OfTable form)) result }
+            task.now.options base.now files.now (OfTable form))
+            (StopsTabulation (S.bytes self.now.source.now) task.now.items task.now.options
+            base.now files.now (OfTable form)) result }
     {
-        self.begin(task.items, names.len());
+        self.begin(task.items, files.names.len());
         let wanted = Wanted {
             items: task.items,
             jobs: task.jobs,
@@ -49,7 +61,7 @@ impl<'a, R: Threads + Wait + RandomSource + Sync, S: Source + Sync> Place<'a, R,
             by: form.by(),
             each: false,
         };
-        let side = match self.one_side(wanted, names) {
+        let side = match self.one_side(wanted, files) {
             Ok(side) => side,
             Err(halt) => return Err(halt),
         };
@@ -67,14 +79,18 @@ impl<'a, R: Threads + Wait + RandomSource + Sync, S: Source + Sync> Place<'a, R,
         &self,
         task: &Tabulation,
         asked: &Changes,
-        names: &[Name],
+        base: &Listed,
+        files: &Listed,
     ) -> Result<Print, Halt>
         ensures { PrintsOrStops (PrintsText (S.bytes self.now.source.now) task.now.items
-            task.now.options names.now (OfChanges asked.now))
-            (StopsTabulation (S.bytes self.now.source.now) task.now.items task.now.options names.now
-            (OfChanges asked.now)) result }
+            task.now.options base.now files.now (OfChanges asked.now))
+            (StopsTabulation (S.bytes self.now.source.now) task.now.items task.now.options
+            base.now files.now (OfChanges asked.now)) result }
     {
-        self.begin(task.items, asked.base.len().saturating_add(names.len()));
+        self.begin(
+            task.items,
+            base.names.len().saturating_add(files.names.len()),
+        );
         let wanted = Wanted {
             items: task.items,
             jobs: task.jobs,
@@ -82,7 +98,7 @@ impl<'a, R: Threads + Wait + RandomSource + Sync, S: Source + Sync> Place<'a, R,
             by: asked.form.by(),
             each: false,
         };
-        let sides = match self.both_sides(wanted, &asked.base, names) {
+        let sides = match self.both_sides(wanted, base, files) {
             Ok(sides) => sides,
             Err(halt) => return Err(halt),
         };
@@ -100,17 +116,21 @@ impl<'a, R: Threads + Wait + RandomSource + Sync, S: Source + Sync> Place<'a, R,
         &self,
         task: &Tabulation,
         asked: &Repetitions,
-        names: &[Name],
+        base: &Listed,
+        files: &Listed,
     ) -> Result<Print, Halt>
         ensures { PrintsOrStops (PrintsText (S.bytes self.now.source.now) task.now.items
-            task.now.options names.now (OfRepetitions asked.now))
-            (StopsTabulation (S.bytes self.now.source.now) task.now.items task.now.options names.now
-            (OfRepetitions asked.now)) result }
+            task.now.options base.now files.now (OfRepetitions asked.now))
+            (StopsTabulation (S.bytes self.now.source.now) task.now.items task.now.options
+            base.now files.now (OfRepetitions asked.now)) result }
     {
-        if !are_few(&asked.base, names) {
+        if !are_few(&base.names, &files.names) {
             return Err(Halt::of_run(self.alloc, Fault::FileCount.code()));
         }
-        self.begin(task.items, asked.base.len().saturating_add(names.len()));
+        self.begin(
+            task.items,
+            base.names.len().saturating_add(files.names.len()),
+        );
         let wanted = Wanted {
             items: task.items,
             jobs: task.jobs,
@@ -118,7 +138,7 @@ impl<'a, R: Threads + Wait + RandomSource + Sync, S: Source + Sync> Place<'a, R,
             by: asked.by,
             each: true,
         };
-        let sides = match self.both_sides(wanted, &asked.base, names) {
+        let sides = match self.both_sides(wanted, base, files) {
             Ok(sides) => sides,
             Err(halt) => return Err(halt),
         };

@@ -6,27 +6,27 @@ use Rattle.span_tasks.proofs.place.Place.print_repetitions.Goals as goal
 -- a table of each name, of which there are few
 pub repetitions-requires-clause-base : goal.repetitions-requires-clause-base
 repetitions-requires-clause-base g c =
-    let few = rw c.deref.ensures.value at (c.are_few.ensures.0 c.if-not-are_few.false) in
-    let sides = rw c.deref-2.ensures.value at c.in-Ok.ensures.sides in
-    length-side (g.S.Source.bytes c.args.self.now.source.now) c.args.task.now.items c.args.task.now.options sides.parts c.args.asked.now.base.items c.in-Ok.sides.base sides.earlier few.base
+    let few = rw (c.deref.ensures.value, c.deref-2.ensures.value) at (c.are_few.ensures.0 c.if-not-are_few.false) in
+    let sides = c.in-Ok.ensures.sides in
+    length-side (g.S.Source.bytes c.args.self.now.source.now) c.args.task.now.items c.args.task.now.options sides.parts c.args.base.now c.in-Ok.sides.base sides.earlier few.base
 
 pub repetitions-requires-clause-other : goal.repetitions-requires-clause-other
 repetitions-requires-clause-other g c =
-    let few = rw c.deref.ensures.value at (c.are_few.ensures.0 c.if-not-are_few.false) in
-    let sides = rw c.deref-2.ensures.value at c.in-Ok.ensures.sides in
-    length-side (g.S.Source.bytes c.args.self.now.source.now) c.args.task.now.items c.args.task.now.options sides.parts c.args.names.now c.in-Ok.sides.other sides.later few.other
+    let few = rw (c.deref.ensures.value, c.deref-2.ensures.value) at (c.are_few.ensures.0 c.if-not-are_few.false) in
+    let sides = c.in-Ok.ensures.sides in
+    length-side (g.S.Source.bytes c.args.self.now.source.now) c.args.task.now.items c.args.task.now.options sides.parts c.args.files.now c.in-Ok.sides.other sides.later few.other
 
 -- a number is too great
 pub returns-in-Err-repetitions : goal.returns-in-Err-repetitions
 returns-in-Err-repetitions g c =
-    let few = rw c.deref.ensures.value at (c.are_few.ensures.0 c.if-not-are_few.false) in
+    let few = rw (c.deref.ensures.value, c.deref-2.ensures.value) at (c.are_few.ensures.0 c.if-not-are_few.false) in
     OfStop-weaker _ _ (λ lines exceeds. inr (
       (
         record {
           few = few;
           base = c.in-Ok.sides.base;
           other = c.in-Ok.sides.other;
-          are = rw c.deref-2.ensures.value at c.in-Ok.ensures.sides;
+          are = c.in-Ok.ensures.sides;
         },
         exceeds.0,
       ),
@@ -36,12 +36,12 @@ returns-in-Err-repetitions g c =
 -- how numbers are spread is printed
 pub returns-in-Ok-print_of_sides : goal.returns-in-Ok-print_of_sides
 returns-in-Ok-print_of_sides g c =
-    let few = rw c.deref.ensures.value at (c.are_few.ensures.0 c.if-not-are_few.false) in
+    let few = rw (c.deref.ensures.value, c.deref-2.ensures.value) at (c.are_few.ensures.0 c.if-not-are_few.false) in
     let texts = c.texts_of-texts.ensures in
     let print = c.in-Ok-print_of_sides.ensures in (
       print.hints,
       record {
-        repeated = record { few = few; base = c.in-Ok.sides.base; other = c.in-Ok.sides.other; are = rw c.deref-2.ensures.value at c.in-Ok.ensures.sides };
+        repeated = record { few = few; base = c.in-Ok.sides.base; other = c.in-Ok.sides.other; are = c.in-Ok.ensures.sides };
         fits = rw texts.shown at c.in-Ok-repetitions.ensures.fits;
         is = ap (λ bytes. bytes.items) print.text ∙ (rw (texts.unit, texts.shown) at c.in-Ok-repetitions.ensures.text);
         said = print.lines;
