@@ -2,14 +2,15 @@
 """A plain model of the texts of repeated runs (docs/report.md): how the numbers of each key are spread over the repetitions of two sides.
 Each FILE is a run of its own, or with --add the table of one (tables.py); like these, it is written from the page alone.
 
-usage: repeats.py [--seal] [--strict] [--nanoseconds] [--of spans|async] [--add] [--json] [--by NUMBER] [--group-by COLUMNS]
-                  [--only TEXT].. [--skip TEXT].. --base FILE.. FILE...
+usage: repeats.py [--seal] [--strict] [--nanoseconds] [--of spans|async] [--add] [--top N | --json] [--by NUMBER] [--group-by COLUMNS]
+                  [--only TEXT].. [--skip TEXT].. --base FILE.. [FILE...]
 """
 import sys
 from dataclasses import dataclass
 
 import tables
 from report import bytes_of, first_lines, text_of
+from said import Said
 from sums import ASYNC, SPANS
 from tables import Stopped, members, number_members
 
@@ -77,7 +78,11 @@ def numbers_of(earlier, later):
     yield from (earlier.median, later.median, earlier.least, earlier.greatest, later.least, later.greatest)
 
 
-def repeats_lines(sides):
+def row_line(key, *both):
+    return " ".join([*(tables.right("total", number) for number in numbers_of(*both)), *map(tables.value_text, key)])
+
+
+def repeats_lines(sides, most):
     base, other = sides.sums()
     yield from first_lines(other.unit)
     for line in base.head_lines():
@@ -87,8 +92,8 @@ def repeats_lines(sides):
     yield tables.title_line([("total", name) for name in NUMBERS], other.columns)
     spreads = list(sides.spreads())
     apart = [row for row in spreads if are_apart(*row[1:])]
-    for key, *both in sorted(apart, key=lambda row: (-abs(row[1].median - row[2].median), row[0])):
-        yield " ".join([*(tables.right("total", number) for number in numbers_of(*both)), *map(tables.value_text, key)])
+    apart.sort(key=lambda row: (-abs(row[1].median - row[2].median), row[0]))
+    yield from tables.first_rows([row_line(*row) for row in apart], most)
     same = same_of(spreads)
     yield f"overlap {len(spreads) - len(apart) - same} same {same}"
 
@@ -98,8 +103,8 @@ def same_of(spreads):
     return sum(earlier == later for _, earlier, later in spreads)
 
 
-def repeats_of(sides):
-    return text_of(repeats_lines(sides))
+def repeats_of(sides, most=None):
+    return text_of(repeats_lines(sides, most))
 
 
 def json_repeats_lines(sides):
@@ -119,38 +124,31 @@ def json_repeats_of(sides):
 # The command line
 
 
-def runs_of(line, of, columns, paths):
-    """The table of each file, and the lines of those that are refused."""
-    files = [(path, bytes_of(path)) for path in paths] or [("-", sys.stdin.buffer.read())]
-    runs = [tables.run_of(line, [file], file[0]) for file in files]
-    return [tables.table_of(columns, [run], True, of) for run, _ in runs], [fault for _, faults in runs for fault in faults]
-
-
 def collected(line):
-    """The tables of both sides, and the lines of the files that are refused."""
+    """The tables of both sides, one of each file."""
     of = ASYNC if line.of == "async" else SPANS
     columns = of.columns_of(line.group_by or tables.usual_columns(line, of))
-    (base, faults), (other, more) = (runs_of(line, of, columns, paths) for paths in (line.base, line.files))
-    return base, other, faults + more
+    sides = ([tables.run_of(line, [(path, bytes_of(path))], path) for path in paths] for paths in (line.base, line.files))
+    return [[tables.table_of(columns, [run], True, of) for run in runs] for runs in sides]
 
 
 def printed(line):
-    """The same of files that are tables, none of which is refused alone."""
-    base, other = tables.tables_of_files(line)
-    columns = tables.wanted_columns(line, base[0])
-    return [tables.sum_of([table], columns) for table in base], [tables.sum_of([table], columns) for table in other], []
+    """The same of files that are tables."""
+    sides = tables.tables_of_files(line)
+    columns = tables.wanted_columns(line, sides[0][0])
+    return [[tables.sum_of([table], columns) for table in side] for side in sides]
 
 
 def text_of_line(line):
-    """The text, and the lines of the files that are refused."""
+    """The text, and what is said beside it."""
     if not 1 <= len(line.base) <= MOST or len(line.files) > MOST:
         raise Stopped("tracebook: 41 FileCount")
-    base, other, faults = printed(line) if line.add else collected(line)
+    base, other = printed(line) if line.add else collected(line)
     sides = Sides(base, other, line.by or base[0].of.order[0], tables.Wanted(line.only, line.skip))
-    text = json_repeats_of(sides) if line.json else repeats_of(sides)
+    text = json_repeats_of(sides) if line.json else repeats_of(sides, line.top)
     if text is None:
         raise Stopped("tracebook: 55 TooGreat")
-    return text, faults
+    return text, Said() if line.add else tables.said_beside([*base, *other])
 
 
 if __name__ == "__main__":

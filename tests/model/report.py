@@ -3,16 +3,18 @@
 docs/ledger.md (ledger.py), and prints the report of docs/report.md. It is written from these pages alone and shares nothing with
 the program, so that the two can be compared. It knows no limit of the journal, and no workers.
 
-usage: report.py [--seal] [--strict] [--nanoseconds] FILE...
+Where --nanoseconds is given, files with refused events are warned of.
+
+usage: report.py [--seal] [--strict] [--nanoseconds] [FILE...]
 """
 import gc
 import sys
+from collections import Counter
 from json.encoder import encode_basestring as json_text
 
 from ledger import Ledger, busy_time, self_times
 from reading import MICROSECONDS, NANOSECONDS, Refused, elements_of
-
-WORDS = {1: "NotJson", 2: "NotTrace", 3: "TooLarge", 4: "TooMany"}
+from said import Said
 
 
 def name_text(name):
@@ -105,18 +107,23 @@ def report_of(ledger):
 
 
 def collect(files, strict=False, unit=MICROSECONDS):
-    """The ledger of files, each a name and its bytes, and the lines of those that are refused."""
-    ledger, faults = Ledger(strict, unit), []
+    """The ledger of files, each a name and its bytes, and what is said of them."""
+    ledger, said = Ledger(strict, unit), Said()
     for name, data in files:
+        accepted, refused = ledger.accepted, Counter(ledger.refused)
         try:
             for element in elements_of(data):
                 ledger.take(element)
         except Refused as refusal:
-            faults.append(f"tracebook: {json_text(name)}: {refusal.number} {WORDS[refusal.number]}")
-    return ledger, faults
+            said.refuse(name, refusal.number)
+        said.count(name, ledger.accepted - accepted, ledger.refused - refused)
+    return ledger, said
 
 
 def bytes_of(path):
+    """The bytes of a file, or of standard input."""
+    if path == "-":
+        return sys.stdin.buffer.read()
     with open(path, "rb") as file:
         return file.read()
 
@@ -124,15 +131,15 @@ def bytes_of(path):
 def main():
     gc.disable()  # Nothing here is let go in rings, and to look for them takes long.
     words = sys.argv[1:]
-    paths = [word for word in words if word not in ("--seal", "--strict", "--nanoseconds")]
+    paths = [word for word in words if word not in ("--seal", "--strict", "--nanoseconds")] or ["-"]
     unit = NANOSECONDS if "--nanoseconds" in words else MICROSECONDS
-    ledger, faults = collect(((path, bytes_of(path)) for path in paths), "--strict" in words, unit)
+    ledger, said = collect(((path, bytes_of(path)) for path in paths), "--strict" in words, unit)
     if "--seal" in words:
         ledger.seal()
     sys.stdout.buffer.write(report_of(ledger))
-    for line in faults:
+    for line in said.lines() if "--nanoseconds" in words else said.faults:
         print(line, file=sys.stderr)
-    return 1 if faults else 0
+    return 1 if said.faults else 0
 
 
 if __name__ == "__main__":

@@ -1,36 +1,40 @@
 #!/usr/bin/env python3
 """A plain model of the tables of docs/report.md: closed spans or async keys (sums.py) summed by columns, as a ranking, a comparison, and
 JSON Lines. Files are read and collected as for the report (report.py); like that, it is written from the pages alone. With --add they
-are tables, which are added up.
+are tables, which are added up. What is said of them stands in said.py.
 
-usage: tables.py [--seal] [--strict] [--nanoseconds] [--of spans|async] [--apart | --add] (--top N | --json) [--by NUMBER]
-                 [--group-by COLUMNS] [--only TEXT].. [--skip TEXT].. [--base FILE].. FILE...
+usage: tables.py [--seal] [--strict] [--nanoseconds] [--of spans|async] [--apart | --add] [--top N | --json] [--by NUMBER]
+                 [--group-by COLUMNS] [--only TEXT].. [--skip TEXT].. [--base FILE].. [FILE...]
 """
 import argparse
 import gc
 import json
 import sys
-from dataclasses import dataclass
+from dataclasses import dataclass, field
 from json.encoder import encode_basestring as json_text
 
 from reading import MICROSECONDS, NANOSECONDS
 from report import bytes_of, collect, first_lines, text_of
+from said import Said
 from sums import ASYNC, MISSING, NIL, OTHER, SPANS, SUMS, TIMES, WHOLE, WORDS, Of, added, argument_value
 
 RANKED_BY = "pid,tid,thread,name"
 COMPARED_BY = "process,thread,name"
 ASYNC_BY = "cat,name"
+# The rows of a ranking that isn't asked for, but meant.
+USUAL_ROWS = 20
+STANDARD_INPUT = "-"
 # Below this are the numbers of JSON Lines.
 BEYOND = 2**64
 
 
 @dataclass
 class Run:
-    """What one ledger holds, of so many files, of which so many are refused; the name of the file if it is one of its own."""
+    """What one ledger holds, of so many files, and what is said of them; the name of the file if it is one of its own."""
 
     ledger: object
     files: int = 1
-    unread: int = 0
+    said: Said = field(default_factory=Said)
     name: str = ""
 
 
@@ -41,7 +45,7 @@ COUNTS = ["runs", "files", "unread", "events", "refused", "skipped", "queries", 
 def counts_of(run):
     ledger = run.ledger
     refused = sum(ledger.refused.values())
-    return dict(zip(COUNTS, [1, run.files, run.unread, ledger.accepted, refused, ledger.skipped, 0, ledger.seals]))
+    return dict(zip(COUNTS, [1, run.files, len(run.said.faults), ledger.accepted, refused, ledger.skipped, 0, ledger.seals]))
 
 
 def all_counts(each):
@@ -56,6 +60,7 @@ class Table:
     says_runs: bool = True
     unit: str = MICROSECONDS
     of: Of = SPANS
+    said: Said = field(default_factory=Said)  # of the files of its runs
 
     def head_lines(self):
         """The lines of the head behind its first ones, but for that of shown rows."""
@@ -68,7 +73,8 @@ class Table:
 
 def table_of(columns, runs, says_runs=False, of=SPANS):
     rows = added(entry for run in runs for entry in SUMS[of](columns, run))
-    return Table(columns, all_counts([counts_of(run) for run in runs]), rows, says_runs, runs[0].ledger.unit, of)
+    said = sum((run.said for run in runs), Said())
+    return Table(columns, all_counts([counts_of(run) for run in runs]), rows, says_runs, runs[0].ledger.unit, of, said)
 
 
 def rows_by(columns, table):
@@ -82,6 +88,17 @@ def sum_of(tables, columns):
     """The sum of tables, by these of their columns."""
     rows = added(row for table in tables for row in rows_by(columns, table))
     return Table(columns, all_counts([table.counts for table in tables]), rows, unit=tables[0].unit, of=tables[0].of)
+
+
+def said_beside(tables):
+    """What is said beside a text of these tables: of their files, and of each column of arguments in which none of their keys has a value,
+    if there are keys."""
+    said = sum((table.said for table in tables), Said())
+    keys = [key for table in tables for key in table.rows]
+    for place, column in enumerate(tables[0].columns):
+        if keys and column.startswith("args.") and all(key[place] == MISSING for key in keys):
+            said.lack(column)
+    return said
 
 
 @dataclass
@@ -180,7 +197,14 @@ def compared_numbers(of, earlier, later):
         yield from (right(name, number) for number in both)
 
 
-def comparison_lines(base, other, by, wanted):
+def first_rows(rows, most):
+    """The first rows, or all where no number is given, and a line that says how many more there are."""
+    yield from rows[:most]
+    if most is not None and len(rows) > most:
+        yield f"more {len(rows) - most}"
+
+
+def comparison_lines(base, other, by, wanted, most):
     yield from first_lines(other.unit)
     for line in base.head_lines():
         yield f"base {line}"
@@ -188,13 +212,13 @@ def comparison_lines(base, other, by, wanted):
     yield from wanted.line(base.rows.keys() | other.rows.keys())
     yield title_line(compared_titles(other.of), other.columns)
     changes, same = changes_of(base, other, by, wanted)
-    for key, earlier, later in changes:
-        yield " ".join([*compared_numbers(other.of, earlier, later), *map(value_text, key)])
+    rows = [" ".join([*compared_numbers(other.of, *numbers), *map(value_text, key)]) for key, *numbers in changes]
+    yield from first_rows(rows, most)
     yield f"same {same}"
 
 
-def comparison_of(base, other, by=None, wanted=ALL):
-    return text_of(comparison_lines(base, other, by or other.of.order[0], wanted))
+def comparison_of(base, other, by=None, wanted=ALL, most=None):
+    return text_of(comparison_lines(base, other, by or other.of.order[0], wanted, most))
 
 
 # JSON Lines
@@ -341,12 +365,11 @@ def bytes_or_stop(path):
 
 
 def tables_of_files(line):
-    """The tables of the base's files, and those of the others, or of standard input where there are none. All sum what the first does,
-    and have its unit and its columns, and those columns and the number that are asked for."""
+    """The tables of the base's files, and those of the others. All sum what the first does, and have its unit and its columns, and those
+    columns and the number that are asked for."""
     tables = []
-    for path in [*line.base, *line.files] if line.files else [*line.base, None]:
-        name = "-" if path is None else path
-        table = table_of_file(name, sys.stdin.buffer.read() if path is None else bytes_or_stop(path))
+    for name in [*line.base, *line.files]:
+        table = table_of_file(name, bytes_or_stop(name))
         first = tables[0] if tables else table
         is_like_first = (table.of, table.unit, table.columns) == (first.of, first.unit, first.columns)
         has_number = line.by is None or line.by in first.of.numbers
@@ -374,68 +397,79 @@ def words_of_line(words):
     for several in "--only", "--skip", "--base":
         parser.add_argument(several, action="append", default=[])
     parser.add_argument("files", nargs="*")
-    return parser.parse_args(words)
+    line = parser.parse_args(words)
+    line.files = line.files or [STANDARD_INPUT]
+    if [*line.base, *line.files].count(STANDARD_INPUT) > 1:
+        parser.error("standard input is read once at most")
+    if not (line.top or line.json or line.base):
+        if not shapes_a_table(line):
+            parser.error("no table is asked for")
+        line.top = USUAL_ROWS
+    return line
+
+
+def shapes_a_table(line):
+    """Whether a table is meant, though no text is asked for."""
+    return any([line.apart, line.add, line.of, line.by, line.group_by, line.only, line.skip])
 
 
 def run_of(line, files, name=""):
-    """The run of files, each a name and its bytes, and the lines of those that are refused."""
-    ledger, faults = collect(files, line.strict, NANOSECONDS if line.nanoseconds else MICROSECONDS)
+    """The run of files, each a name and its bytes."""
+    ledger, said = collect(files, line.strict, NANOSECONDS if line.nanoseconds else MICROSECONDS)
     if line.seal:
         ledger.seal()
-    return Run(ledger, len(files), len(faults), name), faults
+    return Run(ledger, len(files), said, name)
 
 
 def table_of_files(line, of, columns, paths):
-    """The table of files, or of standard input where there are none, and the lines of those that are refused."""
-    files = [(path, bytes_of(path)) for path in paths] or [("-", sys.stdin.buffer.read())]
-    together = [run_of(line, [file], file[0]) for file in files] if line.apart else [run_of(line, files)]
-    table = table_of(columns, [run for run, _ in together], line.apart, of)
-    return table, [fault for _, faults in together for fault in faults]
+    files = [(path, bytes_of(path)) for path in paths]
+    runs = [run_of(line, [file], file[0]) for file in files] if line.apart else [run_of(line, files)]
+    return table_of(columns, runs, line.apart, of)
 
 
 def usual_columns(line, of):
     """The columns where none are named."""
     if of == ASYNC:
         return ASYNC_BY
-    return COMPARED_BY if line.top is None else RANKED_BY
+    return COMPARED_BY if line.json or line.base else RANKED_BY
 
 
 def collected(line):
-    """The tables of the base, if there is one, and of the other files, and the lines of those that are refused."""
+    """The tables of the base, if there is one, and of the other files."""
     of = ASYNC if line.of == "async" else SPANS
     columns = of.columns_of(line.group_by or usual_columns(line, of))
-    base, faults = table_of_files(line, of, columns, line.base) if line.base else (None, [])
-    other, more = table_of_files(line, of, columns, line.files)
-    return base, other, faults + more
+    sides = [line.base, line.files] if line.base else [line.files]
+    return [table_of_files(line, of, columns, paths) for paths in sides]
 
 
 def summed(line):
-    """The same of files that are tables, none of which is refused alone."""
+    """The same of files that are tables."""
     base, others = tables_of_files(line)
     columns = wanted_columns(line, others[0])
-    return sum_of(base, columns) if base else None, sum_of(others, columns), []
+    return [sum_of(tables, columns) for tables in ([base, others] if base else [others])]
 
 
 def text_of_line(line):
-    """The text, and the lines of the files that are refused."""
-    base, other, faults = summed(line) if line.add else collected(line)
+    """The text, and what is said beside it."""
+    tables = summed(line) if line.add else collected(line)
+    base, other = tables if line.base else (None, *tables)
     wanted = Wanted(line.only, line.skip)
     if line.json:
         text = json_comparison_of(base, other, wanted) if base else json_of(other, wanted)
     else:
-        text = comparison_of(base, other, line.by, wanted) if base else ranking_of(other, line.top, line.by, wanted)
+        text = comparison_of(base, other, line.by, wanted, line.top) if base else ranking_of(other, line.top, line.by, wanted)
     if text is None:
         raise Stopped("tracebook: 55 TooGreat")
-    return text, faults
+    return text, Said() if line.add else said_beside(tables)
 
 
 def outcome_of(make, words):
-    """The status of a command line, the text that is made of it, and the lines of files that are refused, or that of what stops."""
+    """The status of a command line, the text that is made of it, and what is said beside it, or the line of what stops."""
     try:
-        text, faults = make(words_of_line(words))
+        text, said = make(words_of_line(words))
     except Stopped as stopped:
         return 2, b"", f"{stopped}\n"
-    return 1 if faults else 0, text, "".join(f"{fault}\n" for fault in faults)
+    return 1 if said.faults else 0, text, text_of(said.lines()).decode()
 
 
 def print_text(make):
