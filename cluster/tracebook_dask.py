@@ -1,6 +1,6 @@
 #!/usr/bin/env python3
 """Sums traces by tracebook on the workers of a Dask cluster: prints what `tracebook --apart` prints for the same files and options, byte
-for byte, with the same fault lines and the same status. README.md beside this says how the work is divided, and what is kept.
+for byte, with the same lines on standard error and the same status. README.md beside this says how the work is divided, and what is kept.
 """
 import signal
 
@@ -58,6 +58,10 @@ LOOK, CENSUS = 0.02, 1
 # The program's statuses: a file that is no trace, and no text at all.
 FAULTY, STOPPED = 1, 2
 WITHOUT_MEMORY = f"{PROGRAM}: 31 Memory\n"
+# How the program's warnings begin, and what it says of files with refused events beyond those that it lists.
+WARNING = f"{PROGRAM}: warning: "
+UNLISTED = f"{WARNING}files with refused events that are not listed: "
+MOST_LISTED = 16
 # The signals that end this.
 ENDINGS = (signal.SIGINT, signal.SIGTERM, signal.SIGHUP)
 
@@ -106,11 +110,29 @@ class Work:
 
 
 @dataclass(frozen=True)
+class Said:
+    """What is said of files: lines that stand before all warnings, as those of files that are no traces; the warnings of the first files
+    with refused events; and how many more of these there are."""
+
+    lines: str = ""
+    warnings: tuple = ()
+    unlisted: int = 0
+
+    def __add__(self, later):
+        warnings = self.warnings + later.warnings
+        unlisted = self.unlisted + later.unlisted + len(warnings[MOST_LISTED:])
+        return Said(self.lines + later.lines, warnings[:MOST_LISTED], unlisted)
+
+    def text(self):
+        return self.lines + "".join(self.warnings) + (f"{UNLISTED}{self.unlisted}\n" if self.unlisted else "")
+
+
+@dataclass(frozen=True)
 class Sum:
-    """What became of files: the status, what standard error gets, and where their table is, unless the status is STOPPED."""
+    """What became of files: the status, what is said of them, and where their table is, unless the status is STOPPED."""
 
     status: int
-    said: str
+    said: Said
     table: Optional[str]
 
 
@@ -143,9 +165,9 @@ def run_program(work, words, names):
     with open(table, "xb") as text:
         ended = subprocess.run(words, cwd=work.place, input=listed.encode(), stdout=text, stderr=subprocess.PIPE)
     if ended.returncode in (0, FAULTY):
-        return Sum(ended.returncode, ended_lines(ended), table)
+        return Sum(ended.returncode, said_of(ended_lines(ended)), table)
     os.remove(table)
-    return Sum(STOPPED, ended_lines(ended), None)
+    return Sum(STOPPED, Said(ended_lines(ended)), None)
 
 
 def ended_lines(ended):
@@ -156,13 +178,21 @@ def ended_lines(ended):
     return f"{said}{NAME}: {PROGRAM} was ended by signal {-status}\n" if status < 0 else f"{said}{NAME}: {PROGRAM} ended with {status}\n"
 
 
+def said_of(text):
+    """What the program said of files. What it says of columns is left out, since it regards these files alone."""
+    lines = re.findall("[^\n]+\n?", text)
+    warnings = tuple(line for line in lines if line.startswith(f'{WARNING}"'))
+    unlisted = sum(int(line.removeprefix(UNLISTED)) for line in lines if line.startswith(UNLISTED))
+    return Said("".join(line for line in lines if not line.startswith(WARNING)), warnings, unlisted)
+
+
 def collect(work, traces):
     """The sum of files that are read. What stops it is said with a file's name."""
     names = names_of(traces)
     collected = run_program(work, ["--apart", "--jobs=1", *work.flags], names)
-    if collected.status != STOPPED or last_line(collected.said).startswith(f'{PROGRAM}: "'):
+    if collected.status != STOPPED or last_line(collected.said.lines).startswith(f'{PROGRAM}: "'):
         return collected
-    return replace(collected, said=collected.said + stopped_line(names))
+    return replace(collected, said=collected.said + Said(stopped_line(names)))
 
 
 def last_line(said):
@@ -176,7 +206,7 @@ def stopped_line(names):
 
 def joined(sums):
     """The status of files, and what is said of them, up to the first that stops."""
-    status, said = 0, ""
+    status, said = 0, Said()
     for each in sums:
         status, said = max(status, each.status), said + each.said
         if status == STOPPED:
@@ -193,38 +223,39 @@ def add(work, sums):
     return Sum(max(status, added.status), said + added.said, added.table)
 
 
-def faults_path(part):
+def lines_path(part):
     return part.removesuffix(".jsonl") + ".faults"
 
 
-def kept_faults(work, part):
-    """The fault lines of a part that was kept; None, where they aren't whole, or the head of its table isn't that of such a part."""
+def kept_lines(work, part):
+    """What is said of the file of a part that was kept; None, where it isn't whole, or the head of its table isn't that of such a part."""
     try:
         with open(part, encoding="utf-8") as table:
             head = json.loads(table.readline())
         if any(head.get(member) != value for member, value in work.head.items()):
             return None
-        if head["unread"] == 0:
-            return ""
-        with open(faults_path(part), encoding="utf-8") as faults:
-            said = faults.read()
-    except (OSError, ValueError, KeyError, AttributeError):
+        count = head["unread"] + (head["refused"] > 0)
+        if count == 0:
+            return Said()
+        with open(lines_path(part), encoding="utf-8") as lines:
+            said = lines.read()
+    except (OSError, ValueError, KeyError, AttributeError, TypeError):
         return None
-    return said if said.count("\n") == head["unread"] else None
+    return said_of(said) if said.count("\n") == count else None
 
 
 def make_part(work, trace):
-    """Reads a file and keeps its part, which stands under its name only when it is whole, and its fault lines before it."""
+    """Reads a file and keeps its part, which stands under its name only when it is whole, and what is said of it before it."""
     if trace.part is not None and os.path.dirname(work.room) != work.parts:
         raise NoText(f"{NAME}: nothing can be written in {quoted(work.parts)}\n")
     made = collect(work, [trace])
     if made.status == STOPPED or trace.part is None:
         return made
-    if made.status == FAULTY:
+    if made.said != Said():
         scratch = made.table + ".faults"
-        with open(scratch, "x", encoding="utf-8") as faults:
-            faults.write(made.said)
-        os.replace(scratch, faults_path(trace.part))
+        with open(scratch, "x", encoding="utf-8") as lines:
+            lines.write(made.said.text())
+        os.replace(scratch, lines_path(trace.part))
     os.replace(made.table, trace.part)
     return replace(made, table=trace.part)
 
@@ -232,15 +263,15 @@ def make_part(work, trace):
 def make_part_again(work, trace):
     made = make_part(work, trace)
     note = f"{NAME}: {quoted(trace.name)}: its part was not whole, or of another kind, and is made anew\n"
-    return replace(made, said=note + made.said)
+    return replace(made, said=Said(note) + made.said)
 
 
 def part_of(work, trace):
     """The part of a file, made if none is kept. That the rows of a kept part are whole is seen when it is added."""
     if trace.part is None or not os.path.exists(trace.part):
         return make_part(work, trace)
-    said = kept_faults(work, trace.part)
-    return make_part_again(work, trace) if said is None else Sum(FAULTY if said else 0, said, trace.part)
+    said = kept_lines(work, trace.part)
+    return make_part_again(work, trace) if said is None else Sum(FAULTY if said.lines else 0, said, trace.part)
 
 
 def is_whole(part):
@@ -280,7 +311,7 @@ def sum_chunk(work, traces):
         return collect(work, traces) if work.parts is None else sum_parts(work, traces)
     except (OSError, NoText) as error:
         said = str(error) if isinstance(error, NoText) else f"{NAME}: {in_one_line(error)} on {os.uname().nodename}\n"
-        return Sum(STOPPED, said + stopped_line(names_of(traces)), None)
+        return Sum(STOPPED, Said(said + stopped_line(names_of(traces))), None)
 
 
 # Files
@@ -361,9 +392,9 @@ def sum_of(future, traces):
     try:
         return future.result()
     except KilledWorker:
-        return Sum(STOPPED, f"{NAME}: each worker that took it was lost\n{stopped_line(names_of(traces))}", None)
+        return Sum(STOPPED, Said(f"{NAME}: each worker that took it was lost\n{stopped_line(names_of(traces))}"), None)
     except CancelledError:
-        return Sum(STOPPED, f"{NAME}: the scheduler was lost\n{stopped_line(names_of(traces))}", None)
+        return Sum(STOPPED, Said(f"{NAME}: the scheduler was lost\n{stopped_line(names_of(traces))}"), None)
 
 
 def ended(client, futures):
@@ -440,23 +471,38 @@ def sum_files(client, work, sides):
     with progress(client, futures):
         status, said = wait_for(client, futures, sum(chunked, []))
         if status == STOPPED:
-            raise NoText(said)
+            raise NoText(said.lines)
         for _ in ended(client, [future for _, level in submitted for future in level]):
             pass
         return [[sum_of(future, side) for future in level] for side, (_, level) in zip(sides, submitted)]
+
+
+def has_bytes(path, sought):
+    with open(path, "rb") as file, mmap.mmap(file.fileno(), 0, prot=mmap.PROT_READ) as data:
+        return data.find(sought) >= 0
+
+
+def said_of_columns(columns, tables):
+    """What the program says of each column of arguments in which no row of these tables has a value, if they have a row. A value stands
+    behind the column's name, which no text within a row is written like."""
+    if not any(has_bytes(table, b"\n{") for table in tables):
+        return ""
+    arguments = [column for column in columns.split(",") if column.startswith("args.")]
+    lacking = [column for column in arguments if not any(has_bytes(table, f"{quoted(column)}:".encode()) for table in tables)]
+    return "".join(f"{WARNING}no span has {quoted(column)}\n" for column in lacking)
 
 
 def print_text(line, base, sums):
     """Prints the text of the sum. Gives the status, and what is left to say."""
     status, said = joined([*base, *sums])
     if status == STOPPED:
-        return status, said
+        return status, said.lines
     bases = [f"--base={each.table}" for each in base]
     words = ["--add", *line.flags(OF_TEXT), *bases, "--", *(each.table for each in sums)]
     ended = subprocess.run([PROGRAM, *words], stdin=subprocess.DEVNULL, stderr=subprocess.PIPE)
     if ended.returncode != 0:
         return STOPPED, ended_lines(ended)
-    return status, said
+    return status, said.text() + said_of_columns(columns_of(line), [each.table for each in [*base, *sums]])
 
 
 # The command line

@@ -2,6 +2,7 @@
 import json
 import os
 import random
+import re
 import shutil
 import subprocess
 import sys
@@ -11,6 +12,7 @@ from loopback import PATIENCE
 
 CHANGED = 10
 BY_FILE = ["--json", "--group-by", "file,name"]
+BY_NOTHING = ["--json", "--group-by", "name,args.none"]
 # What makes a table of another kind than BY_FILE.
 OTHER_KINDS = [["--group-by", "name"], [*BY_FILE[1:], "--nanoseconds"], [*BY_FILE[1:], "--of", "async"]]
 # What can be under a part's name, and isn't a file.
@@ -18,9 +20,9 @@ NO_FILES = {"a dangling link": lambda path: os.symlink("nowhere", path), "a fold
 NOBODY = 65534
 
 
-def kept_run(bench, what, read, notes=(), words=()):
+def kept_run(bench, what, read, notes=(), words=(), by=BY_FILE):
     """Runs the engine with parts, and expects that just these files are read."""
-    words = [*BY_FILE, *words]
+    words = [*by, *words]
     bench.watched.read()
     found = bench.engine(["--parts", "parts", *words], bench.names)
     if bench.watched.read() != sorted(read):
@@ -49,15 +51,15 @@ def note(name):
 
 
 def file_of(text):
-    """The file of a part's table by file, or of a fault line."""
-    return json.loads(text.splitlines()[1])["file"] if text.startswith("{") else json.loads(text.split(": ")[1])
+    """The file of a part's table by file, or of what is said of it."""
+    return json.loads(text.splitlines()[1])["file"] if text.startswith("{") else json.loads(re.search('"[^"]*"', text)[0])
 
 
 def try_parts(bench):
     kept_run(bench, "no part is kept", bench.names)
     kept_run(bench, "all parts are kept", [], words=["--only", "Source"])
-    # Half of a table, one without its last row, one without its head's end, and the lines of a file that is no trace.
-    kinds = {".jsonl": lambda text: text.count("\n") > 2, ".faults": bool}
+    # Half of a table, one without its last row, one without its head's end, and what is said of files.
+    kinds = {".jsonl": lambda text: text.count("\n") > 2, ".faults": lambda text: " warning: " not in text}
     for kind, size in [(".jsonl", lambda text: len(text) // 2), (".jsonl", lambda text: text.rindex("\n", 0, -1) + 1)]:
         path, text = part_of(bench, kind, kinds[kind])
         cut(path, text, size(text))
@@ -67,6 +69,11 @@ def try_parts(bench):
     other, lines = part_of(bench, ".faults", kinds[".faults"])
     cut(other, lines, 0)
     kept_run(bench, "two parts were cut off", [file_of(text), file_of(lines)], [note(file_of(text)), note(file_of(lines))])
+    path, lines = part_of(bench, ".faults", lambda text: " warning: " in text)
+    cut(path, lines, len(lines) - 1)
+    kept_run(bench, "a warning was cut off", [file_of(lines)], [note(file_of(lines))])
+    os.remove(path)
+    kept_run(bench, "a warning is missing", [file_of(lines)], [note(file_of(lines))])
     chance = random.Random(2)
     changed = chance.sample(bench.names, CHANGED)
     for name in changed:
@@ -74,6 +81,8 @@ def try_parts(bench):
     kept_run(bench, f"{CHANGED} files changed", changed)
     kept_run(bench, "the same again", [])
     kept_run(bench, "parts of other flags are kept", bench.names, words=["--seal"])
+    kept_run(bench, "parts by a column that no span has are kept", bench.names, by=BY_NOTHING)
+    kept_run(bench, "parts by a column that no span has are taken", [], words=["--skip", "a"], by=BY_NOTHING)
     kept_run(bench, "parts of async spans are kept", bench.names, words=["--of", "async"])
     kept_run(bench, "parts of async spans are taken", [], words=["--of", "async", "--only", "a"])
     shutil.rmtree(os.path.join(bench.folder, "parts"))
