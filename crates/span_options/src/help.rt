@@ -57,6 +57,11 @@ pub(crate) const JOBS_HELP: &str = r#"How many files are read and collected at o
 --repeats, 1 to 64
 [default: the processors that the system grants]"#;
 
+pub(crate) const FILE_HELP: &str =
+    r#"A trace, or with --add a table; a folder stands for the files below it
+whose names end in .json, or with --add in .jsonl; without a FILE, or
+where it is -, standard input is read"#;
+
 pub(crate) const FILES_FROM_HELP: &str =
     r#"Read names of further files from FILE, one a line, or parted by NULs
 where it holds one; - is standard input"#;
