@@ -2,7 +2,7 @@
 ghost use Rattle.std.specs.Prelude.{string_bytes, IfOk};
 ghost use Rattle.span_faults.specs.FaultLines.{IsHint};
 
-use crate::remedies::{Hint, MANY_FILES, RefusalCounts, hint_of_bytes};
+use crate::remedies::{Hint, MANY_FILES, ONE_BASE, RefusalCounts, hint_of_bytes};
 use span_collect::{Collected, FileEnd, Input};
 use span_event::{Fault, Text, Unit};
 use span_report::json_text;
@@ -81,4 +81,11 @@ pub fn many_files(alloc: Global) -> Result<String, AllocError>
     ensures { IfOk result (λ line. IsHint (string_bytes line)) }
 {
     String::from_str(alloc, MANY_FILES)
+}
+
+/// The hint for a comparison of one file with several.
+pub fn one_base(alloc: Global) -> Result<String, AllocError>
+    ensures { IfOk result (λ line. IsHint (string_bytes line)) }
+{
+    String::from_str(alloc, ONE_BASE)
 }

@@ -18,6 +18,8 @@ pub enum Reason {
     NotText,
     /// It is a folder, and a name in it is not UTF-8.
     OddName,
+    /// It is a list of names of more than 1 GiB.
+    TooLong,
     /// It is standard input, and was read before.
     Taken,
     Other,
@@ -32,6 +34,7 @@ impl Reason {
             Reason::Folder => "it is a folder",
             Reason::NotText => "it is not UTF-8 text",
             Reason::OddName => "a name in it is not UTF-8 text",
+            Reason::TooLong => "a list of names may have 1 GiB",
             Reason::Taken => "standard input was read before, and can be read only once",
             Reason::Other => "reading it failed",
         }
@@ -41,6 +44,10 @@ impl Reason {
 /// Said of a run of more files than may be.
 pub(crate) const MANY_FILES: &str =
     "hint: at most 64 files are collected into one report; a run of some of them at a time has a report of these\n";
+
+/// Said of a comparison of one file with several, each of which is a run of its own.
+pub(crate) const ONE_BASE: &str =
+    "hint: --base takes one FILE, so all others are on the other side; two folders compare file by file\n";
 
 /// What may help with a file, or with the files of a run.
 #[derive(Clone, Copy)]

@@ -1,10 +1,10 @@
 -- The files that a command line names.
-use Rattle.std.specs.{List.{list_any, slice_split}, Prelude.{◌≡◌, ◌<◌, ◌⊎◌, ℕ, ◌==◌, if◌then◌else◌, Bool, true, false, List, [], ◌∷◌, ◌++◌, filter, length, map, Option, Some, None, codes}, Str.bytes_eq}
+use Rattle.std.specs.{List.{list_any, slice_split}, Prelude.{◌≡◌, ◌+◌, ◌<◌, ◌≤◌, ◌⊎◌, ℕ, ◌==◌, if◌then◌else◌, Bool, true, false, List, [], ◌∷◌, ◌++◌, filter, length, map, Option, Some, None, codes}, Str.bytes_eq}
 use Rattle.span_runs.specs.{Bytes, FileCount, number_of, run_line, unread_line, Source.{AreFirst, SourceBytes}, declared.{names.Named.Named, source.Name.{Name, TheVariants.{Standard, File}}}}
 
--- the most bytes that are read of a list
+-- the most bytes that a list may have
 abbrev pub most_listed : ℕ
-most_listed = 1099511627776
+most_listed = 1073741824
 
 -- names end at a NUL where there is one, else at a line feed
 abbrev pub separator_of : Bytes → ℕ
@@ -29,10 +29,11 @@ name_of word = if is_standard word then Standard else File word
 abbrev pub names_of : List Bytes → List Name
 names_of words = map name_of words
 
--- the bytes of a list were read, and the names are these and those in it
+-- the list was read whole, and the names are these and those in it
 pub record IsListRead (source : SourceBytes) (list : Bytes) (given names : List Bytes) : Type 0 where
   pub bytes : Bytes
-  pub read : AreFirst most_listed (source (name_of list)) bytes
+  pub read : AreFirst (most_listed + 1) (source (name_of list)) bytes
+  pub within : length bytes ≤ most_listed
   pub all : names ≡ given ++ names_in bytes
 
 -- the files of these names, and of those of a list behind them, which are some together

@@ -7,7 +7,7 @@ use crate::folders::Listed;
 use crate::gathered::Gathered;
 use crate::gathering::Gathering;
 use crate::jobs::{Stopped, in_jobs};
-use crate::source::{Name, Source, sizes_of};
+use crate::source::{Name, Source, jobs_for, sizes_of};
 use crate::stop::Halt;
 use span_collect::Settings;
 use span_names::HashKeys;
@@ -61,7 +61,7 @@ pub fn gather_apart<T: Gathering, S: Source + Sync, R: Threads + Wait + RandomSo
         cut: files.cut,
         stopped: &stopped,
     };
-    gather_in_jobs(rt, &work, names, &sizes, jobs)
+    gather_in_jobs(rt, &work, names, &sizes, jobs_for(source, names, jobs))
 }
 
 // Gathers these files, which are thought to be so large, in so many jobs.

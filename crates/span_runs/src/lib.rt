@@ -26,7 +26,7 @@ pub use jobs::{Stopped, in_jobs};
 pub use names::{Named, is_standard, names_of, names_of_words};
 pub use runs::table_of_run;
 pub use said::Said;
-pub use source::{FolderFault, Name, Source, SourceFault, sizes_of};
+pub use source::{FolderFault, Name, Source, SourceFault, jobs_for, sizes_of};
 pub use span_collect::refusals::Warning;
 pub use span_collect::{Collected, Input, Settings};
 pub use span_event::Text;

@@ -9,8 +9,8 @@ use span_event::{Fault, Text};
 use span_faults::{Reason, many_files};
 use std::alloc::{AllocError, Global};
 
-// The most bytes that are read of a list.
-const MOST_LISTED: u64 = 1_099_511_627_776;
+// The most bytes that a list may have.
+const MOST_LISTED: u64 = 1_073_741_824;
 
 /// The files that a command line names: these, and then those of a list, where there is one. `-` is standard input, also in a list.
 #[derive(Drop)]
@@ -96,10 +96,14 @@ fn listed_names<S: Source>(
         (OfStop (SaysOfList (S.bytes source.now) given.items (Some list))) }
 {
     let file = name_of_word(list.try_clone(alloc)?);
-    let bytes = match source.read(&file, MOST_LISTED) {
+    let bytes = match source.read(&file, MOST_LISTED + 1) {
         Ok(bytes) => bytes,
         Err(fault) => return Err(unread(alloc, &Name::File(list), fault)),
     };
+    if bytes.len() as u64 > MOST_LISTED {
+        let fault = SourceFault::NotOpened(Reason::TooLong);
+        return Err(unread(alloc, &Name::File(list), fault));
+    }
     let names = match with_names(alloc, given, &bytes) {
         Ok(names) => names,
         Err(ListFault::Memory) => return Err(Halt::Memory),

@@ -68,11 +68,27 @@ pub trait Source {
         0
     }
 
+    /// Whether who reads it may have to wait for another process, as for one that writes to a pipe.
+    fn may_wait(&self, _name: &Name) -> bool {
+        false
+    }
+
     /// Called once, before the first file is read, where each of so many files is a run of its own.
     fn begin_apart(&self, _files: u64) {}
 
     /// Called once, after the last file was read.
     fn end(&self) {}
+}
+
+/// How many jobs read these names at once: so many, but one where reading may wait, so that the first name that stops decides whatever
+/// those behind it wait for.
+pub fn jobs_for<S: Source>(source: &S, names: &[Name], jobs: u32) -> u32 {
+    for name in names {
+        if source.may_wait(name) {
+            return 1;
+        }
+    }
+    jobs
 }
 
 /// How many bytes there are thought to be under each of these names.

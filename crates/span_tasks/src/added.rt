@@ -7,7 +7,7 @@ use span_event::Fault;
 use span_names::HashKeys;
 use span_parts::{PartFault, Parts};
 use span_request::{TableOptions, goes_by};
-use span_runs::{Halt, Name, Source, Stopped, in_jobs, sizes_of, unread};
+use span_runs::{Halt, Name, Source, Stopped, in_jobs, jobs_for, sizes_of, unread};
 use span_table::{Number, Table};
 use std::alloc::Global;
 use std::random::RandomSource;
@@ -79,7 +79,8 @@ impl<'a, R: Threads + Wait + RandomSource + Sync, S: Source + Sync> Place<'a, R,
         let join = move |first, second| -> Result<Parts, Halt>
             ensures { JoinsSums first second result }
         { joined(first, second) };
-        in_jobs(self.rt, &sizes, self.jobs_of(None), &take, &join)
+        let jobs = jobs_for(self.source, names, self.jobs_of(None));
+        in_jobs(self.rt, &sizes, jobs, &take, &join)
     }
 
     /// The sum of a first table and those of the names behind it.

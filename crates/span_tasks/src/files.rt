@@ -77,6 +77,16 @@ impl<'a, W: Watcher> Source for Files<'a, W> {
         }
     }
 
+    fn may_wait(&self, name: &Name) -> bool {
+        let Name::File(path) = name else {
+            return true;
+        };
+        match metadata(self.rt, path.as_str()) {
+            Ok(metadata) => !metadata.is_file(),
+            Err(_) => false,
+        }
+    }
+
     fn begin_apart(&self, files: u64) {
         self.watcher.begin_apart(files);
     }

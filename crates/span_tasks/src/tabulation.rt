@@ -11,6 +11,7 @@ use crate::sides::{Sides, Wanted};
 use crate::texts::TableTexts;
 use crate::warnings::Tabled;
 use span_event::{Fault, Unit};
+use span_faults::one_base;
 use span_request::{Changes, ComparisonForm, Items, Repetitions, TableForm, TableText, Tabulation};
 use span_runs::{Halt, Listed, Name, Source};
 use span_table::Table;
@@ -106,7 +107,7 @@ impl<'a, R: Threads + Wait + RandomSource + Sync, S: Source + Sync> Place<'a, R,
             Ok(text) => text,
             Err(halt) => return Err(halt),
         };
-        match self.print_of_sides(task.items, sides, text) {
+        match self.print_of_sides(task.items, sides, text, self.base_hint(base, files)) {
             Ok(print) => Ok(print),
             Err(halt) => Err(halt),
         }
@@ -147,7 +148,7 @@ impl<'a, R: Threads + Wait + RandomSource + Sync, S: Source + Sync> Place<'a, R,
             Ok(text) => text,
             Err(halt) => return Err(halt),
         };
-        match self.print_of_sides(task.items, sides, text) {
+        match self.print_of_sides(task.items, sides, text, self.base_hint(base, files)) {
             Ok(print) => Ok(print),
             Err(halt) => Err(halt),
         }
@@ -195,9 +196,16 @@ impl<'a, R: Threads + Wait + RandomSource + Sync, S: Source + Sync> Place<'a, R,
     }
 
     // A text of two sides, with what is said of both behind it.
-    fn print_of_sides(&self, items: Items, sides: Sides, text: Vec<u8>) -> Result<Print, Halt>
+    fn print_of_sides(
+        &self,
+        items: Items,
+        sides: Sides,
+        text: Vec<u8>,
+        hint: Vec<u8>,
+    ) -> Result<Print, Halt>
         requires base { IsHint sides.base.hints.items }
         requires other { IsHint sides.other.hints.items }
+        requires hint { IsHint hint.items }
         ensures text { IfOk result (λ print. print.text ≡ text) }
         ensures lines { IfOk result (λ print. print.lines.items
             ≡ sides.base.said.lines.items ++ sides.other.said.lines.items) }
@@ -231,8 +239,22 @@ impl<'a, R: Threads + Wait + RandomSource + Sync, S: Source + Sync> Place<'a, R,
             text,
             lines: said.lines,
             warnings,
-            hints: with_hints(hints, &other.hints),
+            hints: with_hints(with_hints(hints, &other.hints), &hint),
         })
+    }
+
+    // Where one file is compared with several, that may not be what was meant.
+    fn base_hint(&self, base: &Listed, files: &Listed) -> Vec<u8>
+        ensures { IsHint result.items }
+    {
+        let is_odd = base.names.len() == 1 && base.cut == 0 && files.names.len() > 1;
+        if !is_odd || !self.takes_hints {
+            return Vec::new(self.alloc);
+        }
+        match one_base(self.alloc) {
+            Ok(hint) => hint.into_bytes(),
+            Err(_) => Vec::new(self.alloc),
+        }
     }
 }
 
