@@ -2,7 +2,7 @@
 ghost use Rattle.std.specs.Prelude.{string_bytes, IfOk};
 ghost use Rattle.span_faults.specs.FaultLines.{IsHint};
 
-use crate::remedies::{Hint, MANY_FILES, ONE_BASE, RefusalCounts, hint_of_bytes};
+use crate::remedies::{Hint, MANY_FILES, NO_NAMES, ONE_BASE, RefusalCounts, hint_of_bytes};
 use span_collect::{Collected, FileEnd, Input};
 use span_event::{Fault, Text, Unit};
 use span_report::json_text;
@@ -88,4 +88,11 @@ pub fn one_base(alloc: Global) -> Result<String, AllocError>
     ensures { IfOk result (λ line. IsHint (string_bytes line)) }
 {
     String::from_str(alloc, ONE_BASE)
+}
+
+/// The hint for a list without names.
+pub fn no_names(alloc: Global) -> Result<String, AllocError>
+    ensures { IfOk result (λ line. IsHint (string_bytes line)) }
+{
+    String::from_str(alloc, NO_NAMES)
 }

@@ -6,7 +6,7 @@ mod lines;
 mod remedies;
 mod warnings;
 
-pub use hints::{hint_line, hints_of, many_files, one_base};
+pub use hints::{hint_line, hints_of, many_files, no_names, one_base};
 pub use lines::{fault_text, run_line};
 pub use remedies::{Hint, Reason};
 pub use span_collect::refusals::Warning;

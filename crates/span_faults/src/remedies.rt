@@ -47,7 +47,10 @@ pub(crate) const MANY_FILES: &str =
 
 /// Said of a comparison of one file with several, each of which is a run of its own.
 pub(crate) const ONE_BASE: &str =
-    "hint: --base takes one FILE, so all others are on the other side; two folders compare file by file\n";
+    "hint: --base takes one FILE, so all others are on the other side; a folder stands for all files below it\n";
+
+/// Said of a list without names.
+pub(crate) const NO_NAMES: &str = "hint: the list names no file\n";
 
 /// What may help with a file, or with the files of a run.
 #[derive(Clone, Copy)]
@@ -75,6 +78,10 @@ pub enum Hint {
         items: u32,
         code: u16,
         remedy: &'static str,
+    },
+    /// It is a folder without a file whose name ends so.
+    NoFiles {
+        ending: &'static str,
     },
     /// The file could not be read, for this reason.
     Unreadable(Reason),
@@ -289,6 +296,9 @@ impl fmt::Display for Hint {
                     f,
                     "{count} of {items} elements are refused, {code} {word}: {remedy}"
                 )
+            }
+            Hint::NoFiles { ending } => {
+                write!(f, "no file below it has a name that ends in {ending}")
             }
             Hint::Unreadable(reason) => f.write_str(reason.text()),
         }

@@ -1,12 +1,13 @@
 //! The files that names stand for, where folders are among them.
 ghost use Rattle.std.specs.Prelude.{◌≡◌, ◌++◌, ◌∷◌, [], map, option_map, vec_items, IfErr, IfOk, OnOk, string_bytes};
 ghost use Rattle.span_runs.specs.declared.source.Name.TheVariants.{File};
-ghost use Rattle.span_runs.specs.{Folders.{AreFilesOf, HasBelow, Puts, StopsAt, StopsAtName, StopsListing, beginning, ends_in_slash}, Stops.OfStop};
+ghost use Rattle.span_runs.specs.{FileCount, fault_line, number_of, Folders.{AreFilesOf, HasBelow, Puts, StopsAt, StopsAtName, StopsListing, beginning, ends_in_slash}, Stops.OfStop};
 
 use crate::files::unread;
 use crate::source::{FolderFault, Name, Source, SourceFault};
 use crate::stop::Halt;
 use span_event::{Fault, Text};
+use span_faults::{Hint, hint_line};
 use std::alloc::{AllocError, Global};
 
 /// The files that names stand for, in their order; and how many bytes of each path the column of files leaves out.
@@ -22,7 +23,7 @@ pub fn files_of<S: Source>(
     alloc: Global,
     source: &S,
     names: &[Name],
-    ending: &str,
+    ending: &'static str,
 ) -> Result<Listed, Halt>
     ensures listed { IfOk result (AreFilesOf (S.folders source.now) ending.now names.now) }
     ensures stop { IfErr result
@@ -48,7 +49,7 @@ fn put_files<S: Source>(
     source: &S,
     files: &mut Vec<Name>,
     name: &Name,
-    ending: &str,
+    ending: &'static str,
 ) -> Result<usize, Halt>
     ensures puts { IfOk result (Puts (S.folders source.now) ending.now name.now
         files.old.items files.new.items) }
@@ -68,12 +69,24 @@ fn put_files<S: Source>(
         return Ok(0);
     };
     if below.is_empty() {
-        let folder = Name::File(path.try_clone(alloc)?);
-        return Err(Halt::of_name(alloc, &folder, Fault::FileCount.code()));
+        return Err(no_files(alloc, path, ending));
     }
     let beginning = beginning_of(alloc, path)?;
     put_below(alloc, files, &beginning, &below)?;
     Ok(beginning.len())
+}
+
+// There is no file below a folder whose name ends so.
+fn no_files(alloc: Global, folder: &Text, ending: &'static str) -> Halt
+    ensures { OfStop (λ lines. lines ≡ fault_line folder.now (number_of FileCount)) result }
+{
+    let hint = hint_line(alloc, folder, Hint::NoFiles { ending });
+    match folder.try_clone(alloc) {
+        Ok(path) => Halt::of_name(alloc, &Name::File(path), Fault::FileCount.code()).with_hint(
+            hint,
+        ),
+        Err(_) => Halt::Memory,
+    }
 }
 
 // Puts the files of these paths below a folder behind others.
@@ -104,7 +117,7 @@ fn below<S: Source>(
     alloc: Global,
     source: &S,
     path: &Text,
-    ending: &str,
+    ending: &'static str,
 ) -> Result<Option<Vec<Text>>, Halt>
     ensures found { IfOk result (λ found.
         HasBelow (S.folders source.now ending.now path.now) (option_map vec_items found)) }

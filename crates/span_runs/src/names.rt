@@ -6,7 +6,7 @@ use crate::files::unread;
 use crate::source::{Name, Source, SourceFault};
 use crate::stop::Halt;
 use span_event::{Fault, Text};
-use span_faults::{Reason, many_files};
+use span_faults::{Reason, no_names};
 use std::alloc::{AllocError, Global};
 
 // The most bytes that a list may have.
@@ -113,7 +113,7 @@ fn listed_names<S: Source>(
         }
     };
     if names.is_empty() {
-        return Err(Halt::of_run(alloc, Fault::FileCount.code()).with_hint(many_files(alloc)));
+        return Err(Halt::of_run(alloc, Fault::FileCount.code()).with_hint(no_names(alloc)));
     }
     match names_of_words(alloc, names) {
         Ok(names) => Ok(names),
