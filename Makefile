@@ -21,7 +21,7 @@ SOURCES := crates.txt HANDLES $(shell find crates -name out -prune -o -type f -p
 
 all: tracebook
 
-# Proves every crate, which takes minutes the first time.
+# Proves every crate, which takes half an hour or more the first time.
 tracebook: $(SOURCES)
 	scripts/build
 
