@@ -1,0 +1,3 @@
+cd "$1"
+mkdir traces
+echo ']' > 'traces/a.json'

@@ -1,0 +1,4 @@
+cd "$1"
+mkdir -p d e
+echo ']' > 'e/a.json'
+echo "]" > "e/$(printf '\377')"

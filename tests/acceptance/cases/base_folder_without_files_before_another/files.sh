@@ -1,0 +1,2 @@
+cd "$1"
+mkdir a z

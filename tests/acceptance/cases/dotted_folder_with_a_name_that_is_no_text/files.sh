@@ -1,0 +1,5 @@
+cd "$1"
+mkdir -p d/.a/b
+echo ']' > 'd/a.json'
+echo "]" > "d/.a/$(printf '\377').json"
+echo "]" > "d/.a/b/$(printf '\377')"

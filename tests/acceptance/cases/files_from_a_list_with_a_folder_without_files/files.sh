@@ -1,0 +1,3 @@
+cd "$1"
+mkdir d
+echo d > list

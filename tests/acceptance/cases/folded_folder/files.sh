@@ -1,0 +1,4 @@
+cd "$1"
+mkdir -p d/b
+echo '[{"ph":"X","name":"p","ts":0,"dur":5}]' > 'd/a.json'
+echo '[{"ph":"X","name":"q","ts":10,"dur":3}]' > 'd/b/c.json'

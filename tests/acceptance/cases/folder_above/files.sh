@@ -1,0 +1,3 @@
+cd "$1"
+mkdir build
+echo ']' > 'build/a.json'

@@ -1,0 +1,3 @@
+cd "$1"
+mkdir -p .cache/build
+echo ']' > '.cache/build/a.json'

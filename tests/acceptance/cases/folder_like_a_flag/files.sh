@@ -1,0 +1,3 @@
+cd "$1"
+mkdir -- --json
+echo ']' > ./--json/a.json

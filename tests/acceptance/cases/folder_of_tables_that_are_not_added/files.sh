@@ -1,0 +1,3 @@
+cd "$1"
+mkdir parts
+echo ']' > 'parts/a.jsonl'

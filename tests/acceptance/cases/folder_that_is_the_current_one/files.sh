@@ -1,0 +1,4 @@
+cd "$1"
+mkdir a
+echo ']' > 'b.json'
+echo ']' > 'a/c.json'

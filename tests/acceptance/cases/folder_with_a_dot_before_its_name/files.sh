@@ -1,0 +1,4 @@
+cd "$1"
+mkdir -p .build/.no
+echo ']' > '.build/a.json'
+echo ']' > '.build/.no/b.json'

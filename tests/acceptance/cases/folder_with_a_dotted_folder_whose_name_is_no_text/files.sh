@@ -1,0 +1,3 @@
+cd "$1"
+mkdir -p "d/.$(printf '\377')"
+echo ']' > 'd/a.json'

@@ -1,0 +1,4 @@
+cd "$1"
+mkdir -p d
+echo ']' > 'd/a.json'
+echo "]" > "d/$(printf '\377')"

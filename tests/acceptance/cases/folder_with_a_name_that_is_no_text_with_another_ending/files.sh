@@ -1,0 +1,4 @@
+cd "$1"
+mkdir -p d/a
+echo ']' > 'd/a.json'
+echo "]" > "d/a/$(printf '\377').txt"

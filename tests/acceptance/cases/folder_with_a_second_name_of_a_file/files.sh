@@ -1,0 +1,4 @@
+cd "$1"
+mkdir d
+echo ']' > 'a.json'
+ln a.json d/b.json

@@ -1,0 +1,4 @@
+cd "$1"
+mkdir -p build/c
+echo ']' > 'build/a.json'
+echo ']' > 'build/c/b.json'

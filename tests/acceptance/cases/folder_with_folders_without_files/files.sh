@@ -1,0 +1,2 @@
+cd "$1"
+mkdir -p d/a d/b/c.json

@@ -1,0 +1,16 @@
+cd "$1"
+mkdir -p d/e
+echo ']' > 'd/a.JSON'
+echo ']' > 'd/a.Json'
+echo ']' > 'd/a.json.gz'
+echo ']' > 'd/a.jsonl'
+echo ']' > 'd/a.json~'
+echo ']' > 'd/ajson'
+echo ']' > 'd/json'
+echo ']' > 'd/a.json.'
+echo ']' > 'd/a.json '
+echo ']' > 'd/a.jso'
+echo ']' > 'd/a'
+echo ']' > 'd/e/b.txt'
+echo ']' > 'd/a .json'
+echo ']' > 'd/e/json.json'

@@ -1,0 +1,3 @@
+cd "$1"
+mkdir build.json
+echo ']' > 'build.json/a.json'

@@ -1,0 +1,4 @@
+cd "$1"
+mkdir z d
+echo ']' > 'd/a.json'
+echo "]" > "d/$(printf '\377')"

@@ -1,0 +1,3 @@
+cd "$1"
+mkdir z d a
+echo ']' > 'z/a.json'
