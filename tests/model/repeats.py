@@ -9,10 +9,10 @@ import sys
 from dataclasses import dataclass
 
 import tables
-from report import bytes_of, first_lines, text_of
-from said import Said
+from report import first_lines, text_of
+from said import Said, Stopped
 from sums import ASYNC, SPANS
-from tables import Stopped, members, number_members
+from tables import members, number_members
 
 MOST = 64
 
@@ -128,7 +128,7 @@ def collected(line):
     """The tables of both sides, one of each file."""
     of = ASYNC if line.of == "async" else SPANS
     columns = of.columns_of(line.group_by or tables.usual_columns(line, of))
-    sides = ([tables.run_of(line, [(path, bytes_of(path))], path) for path in paths] for paths in (line.base, line.files))
+    sides = ([tables.run_of(line, [file]) for file in files] for files in (line.base, line.files))
     return [[tables.table_of(columns, [run], True, of) for run in runs] for runs in sides]
 
 

@@ -1,7 +1,7 @@
 #!/usr/bin/env python3
 """A plain model of tracebook. It reads files by docs/format.md (reading.py), tells them one after another to a ledger by
 docs/ledger.md (ledger.py), and prints the report of docs/report.md. It is written from these pages alone and shares nothing with
-the program, so that the two can be compared. It knows no limit of the journal, and no workers.
+the program, so that the two can be compared. It knows no limit of the journal or of the files of a run, and no workers.
 
 Where --nanoseconds is given, files with refused events are warned of.
 
@@ -12,9 +12,10 @@ import sys
 from collections import Counter
 from json.encoder import encode_basestring as json_text
 
+from folders import STANDARD_INPUT, files_of
 from ledger import Ledger, busy_time, self_times
 from reading import MICROSECONDS, NANOSECONDS, Refused, elements_of
-from said import Said
+from said import Said, Stopped
 
 
 def name_text(name):
@@ -122,7 +123,7 @@ def collect(files, strict=False, unit=MICROSECONDS):
 
 def bytes_of(path):
     """The bytes of a file, or of standard input."""
-    if path == "-":
+    if path == STANDARD_INPUT:
         return sys.stdin.buffer.read()
     with open(path, "rb") as file:
         return file.read()
@@ -131,8 +132,13 @@ def bytes_of(path):
 def main():
     gc.disable()  # Nothing here is let go in rings, and to look for them takes long.
     words = sys.argv[1:]
-    paths = [word for word in words if word not in ("--seal", "--strict", "--nanoseconds")] or ["-"]
+    names = [word for word in words if word not in ("--seal", "--strict", "--nanoseconds")] or [STANDARD_INPUT]
     unit = NANOSECONDS if "--nanoseconds" in words else MICROSECONDS
+    try:
+        paths = [file.path for file in files_of(names)]
+    except Stopped as stopped:
+        print(stopped, file=sys.stderr)
+        return 2
     ledger, said = collect(((path, bytes_of(path)) for path in paths), "--strict" in words, unit)
     if "--seal" in words:
         ledger.seal()

@@ -10,6 +10,10 @@ WORDS |= {19: "BadSeries", 21: "NoOpenSpan", 22: "TimeGoesBack", 23: "NoOpenAsyn
 WORDS |= {27: "NameDiffers"}
 
 
+class Stopped(Exception):
+    """There is no text, and this line says why."""
+
+
 @dataclass
 class Said:
     """A line of each file that is no trace, one of each with refused events, and one of each column that no span has."""

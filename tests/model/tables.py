@@ -1,7 +1,7 @@
 #!/usr/bin/env python3
 """A plain model of the tables of docs/report.md: closed spans or async keys (sums.py) summed by columns, as a ranking, a comparison, and
-JSON Lines. Files are read and collected as for the report (report.py); like that, it is written from the pages alone. With --add they
-are tables, which are added up. What is said of them stands in said.py.
+JSON Lines. Files are looked for (folders.py), read and collected as for the report (report.py); like that, it is written from the pages
+alone. With --add they are tables, which are added up. What is said of them stands in said.py.
 
 usage: tables.py [--seal] [--strict] [--nanoseconds] [--of spans|async] [--apart | --add] [--top N | --json] [--by NUMBER]
                  [--group-by COLUMNS] [--only TEXT].. [--skip TEXT].. [--base FILE].. [FILE...]
@@ -13,9 +13,10 @@ import sys
 from dataclasses import dataclass, field
 from json.encoder import encode_basestring as json_text
 
+from folders import STANDARD_INPUT, TABLES, TRACES, files_of
 from reading import MICROSECONDS, NANOSECONDS
 from report import bytes_of, collect, first_lines, text_of
-from said import Said
+from said import Said, Stopped
 from sums import ASYNC, MISSING, NIL, OTHER, SPANS, SUMS, TIMES, WHOLE, WORDS, Of, added, argument_value
 
 RANKED_BY = "pid,tid,thread,name"
@@ -23,14 +24,13 @@ COMPARED_BY = "process,thread,name"
 ASYNC_BY = "cat,name"
 # The rows of a ranking that isn't asked for, but meant.
 USUAL_ROWS = 20
-STANDARD_INPUT = "-"
 # Below this are the numbers of JSON Lines.
 BEYOND = 2**64
 
 
 @dataclass
 class Run:
-    """What one ledger holds, of so many files, and what is said of them; the name of the file if it is one of its own."""
+    """What one ledger holds, of so many files, and what is said of them; and what the column `file` has where it is of one alone."""
 
     ledger: object
     files: int = 1
@@ -306,11 +306,6 @@ def text_or_none(lines):
 
 # Tables that were printed
 
-
-class Stopped(Exception):
-    """There is no text, and this line says why."""
-
-
 # The kinds of value that a column can have; an argument can have any.
 KINDS = {"pid": {WHOLE}, "tid": {WHOLE}, "process": {MISSING[0], WORDS}, "thread": {MISSING[0], WORDS}}
 KINDS |= {column: {WORDS} for column in ["name", "file", "cat", "scope", "id"]}
@@ -368,13 +363,13 @@ def tables_of_files(line):
     """The tables of the base's files, and those of the others. All sum what the first does, and have its unit and its columns, and those
     columns and the number that are asked for."""
     tables = []
-    for name in [*line.base, *line.files]:
-        table = table_of_file(name, bytes_or_stop(name))
+    for file in [*line.base, *line.files]:
+        table = table_of_file(file.path, bytes_or_stop(file.path))
         first = tables[0] if tables else table
         is_like_first = (table.of, table.unit, table.columns) == (first.of, first.unit, first.columns)
         has_number = line.by is None or line.by in first.of.numbers
         if not is_like_first or not has_number or not set(table.columns).issuperset(wanted_columns(line, table)):
-            raise Stopped(f"tracebook: {json_text(name)}: 54 OtherColumns")
+            raise Stopped(f"tracebook: {json_text(file.path)}: 54 OtherColumns")
         tables.append(table)
     return tables[: len(line.base)], tables[len(line.base) :]
 
@@ -387,6 +382,7 @@ def wanted_columns(line, table):
 
 
 def words_of_line(words):
+    """The words of a command line, with the files of both sides, the base's looked for before the others."""
     parser = argparse.ArgumentParser(allow_abbrev=False)
     for switch in "--seal", "--strict", "--nanoseconds", "--json", "--apart", "--add":
         parser.add_argument(switch, action="store_true")
@@ -405,6 +401,7 @@ def words_of_line(words):
         if not shapes_a_table(line):
             parser.error("no table is asked for")
         line.top = USUAL_ROWS
+    line.base, line.files = (files_of(names, TABLES if line.add else TRACES) for names in (line.base, line.files))
     return line
 
 
@@ -413,17 +410,17 @@ def shapes_a_table(line):
     return any([line.apart, line.add, line.of, line.by, line.group_by, line.only, line.skip])
 
 
-def run_of(line, files, name=""):
-    """The run of files, each a name and its bytes."""
-    ledger, said = collect(files, line.strict, NANOSECONDS if line.nanoseconds else MICROSECONDS)
+def run_of(line, files):
+    """The run of files."""
+    read = [(file.path, bytes_of(file.path)) for file in files]
+    ledger, said = collect(read, line.strict, NANOSECONDS if line.nanoseconds else MICROSECONDS)
     if line.seal:
         ledger.seal()
-    return Run(ledger, len(files), said, name)
+    return Run(ledger, len(files), said, files[0].shown)
 
 
-def table_of_files(line, of, columns, paths):
-    files = [(path, bytes_of(path)) for path in paths]
-    runs = [run_of(line, [file], file[0]) for file in files] if line.apart else [run_of(line, files)]
+def table_of_files(line, of, columns, files):
+    runs = [run_of(line, [file]) for file in files] if line.apart else [run_of(line, files)]
     return table_of(columns, runs, line.apart, of)
 
 
@@ -439,7 +436,7 @@ def collected(line):
     of = ASYNC if line.of == "async" else SPANS
     columns = of.columns_of(line.group_by or usual_columns(line, of))
     sides = [line.base, line.files] if line.base else [line.files]
-    return [table_of_files(line, of, columns, paths) for paths in sides]
+    return [table_of_files(line, of, columns, files) for files in sides]
 
 
 def summed(line):
