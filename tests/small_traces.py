@@ -1,6 +1,10 @@
-"""Small traces that are drawn by lot, of which some are cut off."""
+"""Small traces that are drawn by lot, of which some are cut off, and folders of them."""
 import json
 import os
+
+# Names within folders, in two parts.
+STEMS = ["a", "a-", "B", "é", "z.json", "~", " ", "10", "9", "ｚ", "𝄞", "a", "b", ".", ".k"]
+ENDINGS = [".json", ".json", ".json", ".json", "", ".jsonl", ".JSON", ".json.gz"]
 
 
 def time(chance, most, in_fractions):
@@ -15,28 +19,61 @@ def async_event(chance, in_fractions):
     return made | chance.choice([{}, {}, {"scope": "b"}])
 
 
-def event(chance, in_fractions):
-    if chance.randrange(3) == 0:
+def event(chance, in_fractions, process):
+    if process is None and chance.randrange(3) == 0:
         return async_event(chance, in_fractions)
+    process = 7 if process is None else process
     phase = chance.choice("BEXXM")
     name = chance.choice(["a", "ab", "b", "é"])
     if phase == "M":
-        return {"ph": "M", "name": "process_name", "pid": 7, "tid": 1, "args": {"name": name}}
-    made = {"ph": phase, "name": name, "pid": 7, "tid": chance.randrange(2), "ts": time(chance, 100, in_fractions)}
+        return {"ph": "M", "name": "process_name", "pid": process, "tid": 1, "args": {"name": name}}
+    made = {"ph": phase, "name": name, "pid": process, "tid": chance.randrange(2), "ts": time(chance, 100, in_fractions)}
     if phase == "X":
         made |= {"dur": time(chance, 20, in_fractions), "args": {"k": chance.choice([1, "x", None, 1.5])}}
     return made
 
 
-def trace(chance, in_fractions):
-    text = json.dumps([event(chance, in_fractions) for _ in range(chance.randrange(40))], ensure_ascii=False)
-    return text if chance.randrange(8) else text[:-1]
+def trace(chance, in_fractions, process=None):
+    """A trace of this process alone, if there is one."""
+    text = json.dumps([event(chance, in_fractions, process) for _ in range(chance.randrange(40))], ensure_ascii=False)
+    return text if chance.randrange(8) else text[:-2]
+
+
+def put_text(path, text):
+    with open(path, "w", encoding="utf-8") as file:
+        file.write(text)
 
 
 def put_traces(folder, chance, count, in_fractions=False):
     """Makes so many files, whose times may have fractions, and gives their names."""
     names = [f"{number}.json" for number in range(count)]
     for name in names:
-        with open(os.path.join(folder, name), "w", encoding="utf-8") as file:
-            file.write(trace(chance, in_fractions))
+        put_text(os.path.join(folder, name), trace(chance, in_fractions))
     return names
+
+
+def put_tree(folder, chance, processes, in_fractions=False):
+    """Makes a folder, and in it and below it files, each with a process of its own, of which there are these, other folders, and links to
+    what stands there or doesn't."""
+    os.mkdir(folder)
+    folders, others = [folder], ["none"]
+    for process in processes:
+        path = os.path.join(chance.choice(folders), chance.choice(STEMS) + chance.choice(ENDINGS))
+        if os.path.lexists(path) or path.endswith("/."):
+            continue
+        if chance.randrange(4) == 0:
+            os.mkdir(path)
+            folders.append(path)
+        elif chance.randrange(5) == 0:
+            os.symlink(os.path.abspath(chance.choice([*folders, *others])), path)
+        else:
+            put_text(path, trace(chance, in_fractions, process))
+        others.append(path)
+
+
+def spoil_tree(folder, chance):
+    """Makes a file or two whose names aren't UTF-8, in some folder of a tree."""
+    folders = [place for place, _, _ in os.walk(os.fsencode(folder))]
+    for place in chance.choices(folders, k=2):
+        with open(os.path.join(place, chance.choice([b"\xff", b".\xff", b"a\xff.json"])), "wb"):
+            pass
