@@ -38,6 +38,10 @@ LIST = "--files-from"
 # Those that tables follow from, and those that only the text follows from.
 OF_TABLES = ("--of", "--limit", "--nanoseconds", "--seal", "--strict")
 OF_TEXT = ("--json", "--top", "--by", "--only", "--skip")
+# What is a FILE's own, and the file that standard input is kept in, with one byte more than a trace may have.
+STANDARD_INPUT, GIVEN, MOST_GIVEN = "-", "given", (64 << 20) + 1
+# How the names of traces end that stand for the folder that they are in.
+ENDING = b".json"
 # The columns without --group-by, as the program has them.
 RANKED_BY = "pid,tid,thread,name"
 COMPARED_BY = "process,thread,name"
@@ -89,11 +93,17 @@ All other options are those of tracebook --apart, but for --jobs and --page.
 
 @dataclass(frozen=True)
 class Trace:
-    """A file, the path of the part that is kept of it, if parts are kept, and what it will cost, in bytes."""
+    """A file, the path of the part that is kept of it, if parts are kept, and what it will cost, in bytes; and where standard input is
+    kept, if it is that."""
 
     name: str
     part: Optional[str]
     cost: int
+    given: Optional[str] = None
+
+    def is_alone(self):
+        """Whether no list can have it."""
+        return self.name == "" or self.given is not None
 
 
 @dataclass(frozen=True)
@@ -156,18 +166,28 @@ def in_one_line(error):
 # What workers do
 
 
-def run_program(work, words, names):
-    """Runs the program on files and keeps its text. Only if it ended well its table is there."""
+def run_program(work, words, data):
+    """Runs the program with these words and on these bytes, and keeps its text. Only if it ended well its table is there."""
     table = os.path.join(work.room, uuid.uuid4().hex)
-    # A list can't have the empty name, which is alone.
-    words = [PROGRAM, *words, "--json", *(["--", ""] if names == [""] else [LIST, "-"])]
-    listed = "".join(f"{name}\0" for name in names)
     with open(table, "xb") as text:
-        ended = subprocess.run(words, cwd=work.place, input=listed.encode(), stdout=text, stderr=subprocess.PIPE)
+        ended = subprocess.run([PROGRAM, "--json", *words], cwd=work.place, input=data, stdout=text, stderr=subprocess.PIPE)
     if ended.returncode in (0, FAULTY):
         return Sum(ended.returncode, said_of(ended_lines(ended)), table)
     os.remove(table)
     return Sum(STOPPED, Said(ended_lines(ended)), None)
+
+
+def run_on_list(work, words, names):
+    return run_program(work, [*words, LIST, STANDARD_INPUT], "".join(f"{name}\0" for name in names).encode())
+
+
+def run_alone(work, words, trace):
+    """Runs the program on a file that no list can have, which may be standard input."""
+    data = b""
+    if trace.given is not None:
+        with open(trace.given, "rb") as given:
+            data = given.read()
+    return run_program(work, [*words, "--", trace.name], data)
 
 
 def ended_lines(ended):
@@ -188,8 +208,8 @@ def said_of(text):
 
 def collect(work, traces):
     """The sum of files that are read. What stops it is said with a file's name."""
-    names = names_of(traces)
-    collected = run_program(work, ["--apart", "--jobs=1", *work.flags], names)
+    names, words = names_of(traces), ["--apart", "--jobs=1", *work.flags]
+    collected = run_alone(work, words, traces[0]) if traces[0].is_alone() else run_on_list(work, words, names)
     if collected.status != STOPPED or last_line(collected.said.lines).startswith(f'{PROGRAM}: "'):
         return collected
     return replace(collected, said=collected.said + Said(stopped_line(names)))
@@ -219,7 +239,7 @@ def add(work, sums):
     status, said = joined(sums)
     if status == STOPPED:
         return Sum(status, said, None)
-    added = run_program(work, ["--add"], [each.table for each in sums])
+    added = run_on_list(work, ["--add"], [each.table for each in sums])
     return Sum(max(status, added.status), said + added.said, added.table)
 
 
@@ -317,14 +337,77 @@ def sum_chunk(work, traces):
 # Files
 
 
+def not_opened(path):
+    return NoText(f"{PROGRAM}: {quoted(path)}: 52 NotOpened\n")
+
+
 def names_from(path):
     """The names in a list: one on each line, or parted by NULs where it holds one."""
     try:
-        with open(0 if path == "-" else path, "rb") as listed:
+        with open(0 if path == STANDARD_INPUT else path, "rb") as listed:
             data = listed.read()
         return [name.decode() for name in data.split(b"\0" if b"\0" in data else b"\n") if name]
     except (OSError, ValueError):
-        raise NoText(f"{PROGRAM}: {quoted(path)}: 52 NotOpened\n") from None
+        raise not_opened(path) from None
+
+
+@dataclass(frozen=True)
+class Side:
+    """The names of the files of a side, and with what they begin that the column `file` leaves out."""
+
+    names: list
+    left_out: str = ""
+
+
+def side_of(names):
+    """The files that FILEs stand for. A folder stands for those below it, and if it is alone the column has their paths below it."""
+    if len(names) == 1 and is_folder(names[0]):
+        return Side(names_below(names[0]), os.path.join(names[0], ""))
+    return Side([below for name in names for below in (names_below(name) if is_folder(name) else [name])])
+
+
+def is_folder(name):
+    return name != STANDARD_INPUT and os.path.isdir(name)
+
+
+def names_below(folder):
+    """The names of the traces below a folder, in the order of their bytes."""
+    found, unread, left = [], [], [os.fsencode(folder)]
+    while left:
+        place = left.pop()
+        try:
+            files, folders = entries_of(place)
+        except (OSError, ValueError):
+            unread.append(place)
+            continue
+        found += files
+        left += folders
+    if unread:
+        raise not_opened(os.fsdecode(min(unread)))
+    if not found:
+        raise NoText(f"{PROGRAM}: {quoted(folder)}: 41 FileCount\n")
+    return [name.decode() for name in sorted(found)]
+
+
+def entries_of(folder):
+    """The traces and the folders in a folder, but for those that are links or whose names begin with a dot. All names are to be text."""
+    with os.scandir(folder) as entries:
+        shown = [entry for entry in entries if not entry.name.decode().startswith(".")]
+    files = [entry.path for entry in shown if entry.name.endswith(ENDING) and entry.is_file(follow_symlinks=False)]
+    return files, [entry.path for entry in shown if entry.is_dir(follow_symlinks=False)]
+
+
+def keep_given(work):
+    """Keeps what standard input has, where it is a FILE, and gives the path; None where it can't be read."""
+    path = os.path.join(work.room, GIVEN)
+    try:
+        with open(0, "rb", closefd=False) as given:
+            data = given.read(MOST_GIVEN)
+    except OSError:
+        return None  # The program will say so.
+    with open(path, "xb") as kept:
+        kept.write(data)
+    return path
 
 
 def part_path(work, name, status):
@@ -341,9 +424,13 @@ def sizes_of_parts(work):
         return {entry.path: entry.stat().st_size if entry.is_file() else None for entry in entries if entry.name.endswith(".jsonl")}
 
 
-def traces_of(work, names, sizes):
-    """The files of these names, where the parts that stand have these sizes."""
+def traces_of(work, names, sizes, given):
+    """The files of these names, where the parts that stand have these sizes, and the first name of standard input has what is given."""
     for name in names:
+        if name == STANDARD_INPUT:
+            path = given.pop() if given else None
+            yield Trace(name, None, OPENING + (os.path.getsize(path) if path else 0), path)
+            continue
         try:
             status = os.stat(name)
         except OSError:
@@ -357,10 +444,10 @@ def traces_of(work, names, sizes):
 
 
 def chunks_of(traces, most):
-    """Runs of files of at most this cost, or of one file. A file without a name, which no list can have, is alone."""
+    """Runs of files of at most this cost, or of one file."""
     chunk, cost = [], 0
     for trace in traces:
-        if chunk and (cost + trace.cost > most or "" in (trace.name, chunk[-1].name)):
+        if chunk and (cost + trace.cost > most or trace.is_alone() or chunk[-1].is_alone()):
             yield chunk
             chunk, cost = [], 0
         chunk.append(trace)
@@ -492,17 +579,34 @@ def said_of_columns(columns, tables):
     return "".join(f"{WARNING}no span has {quoted(column)}\n" for column in lacking)
 
 
-def print_text(line, base, sums):
-    """Prints the text of the sum. Gives the status, and what is left to say."""
-    status, said = joined([*base, *sums])
+def without_beginning(table, left_out):
+    """The path of the table in which all values of the column `file` have lost this beginning, so that their order is the same. Only where
+    a member has this name a quote stands behind a brace or a comma, and the name behind it."""
+    sought, path = re.compile(rb'([{,]"file":")' + re.escape(quoted(left_out)[1:-1].encode())), f"{table}.below"
+    with open(table, "rb") as rows, open(path, "xb") as kept:
+        kept.writelines(sought.sub(rb"\1", row, count=1) for row in rows)
+    return path
+
+
+def tables_of(line, side, sums):
+    """The paths of a side's tables."""
+    tables = [each.table for each in sums]
+    if side.left_out and "file" in columns_of(line).split(","):
+        return [without_beginning(table, side.left_out) for table in tables]
+    return tables
+
+
+def print_text(line, sides, sums):
+    """Prints the text of the sums of both sides. Gives the status, and what is left to say."""
+    status, said = joined(sum(sums, []))
     if status == STOPPED:
         return status, said.lines
-    bases = [f"--base={each.table}" for each in base]
-    words = ["--add", *line.flags(OF_TEXT), *bases, "--", *(each.table for each in sums)]
+    base, others = (tables_of(line, *each) for each in zip(sides, sums))
+    words = ["--add", *line.flags(OF_TEXT), *(f"--base={table}" for table in base), "--", *others]
     ended = subprocess.run([PROGRAM, *words], stdin=subprocess.DEVNULL, stderr=subprocess.PIPE)
     if ended.returncode != 0:
         return STOPPED, ended_lines(ended)
-    return status, said.text() + said_of_columns(columns_of(line), [each.table for each in [*base, *sums]])
+    return status, said.text() + said_of_columns(columns_of(line), [*base, *others])
 
 
 # The command line
@@ -534,6 +638,10 @@ class Line:
 
     def value(self, name):
         return next(iter(self.values(name)), None)
+
+    def named(self):
+        """The FILEs that the words name, or standard input, where they name neither one nor a list."""
+        return self.files if self.files or self.has(LIST) else [STANDARD_INPUT]
 
     def flags(self, names):
         """Those of the options that have these names."""
@@ -578,10 +686,14 @@ def shown_by_program(line):
     """Lets the program look at the words before anything is read, with a list of no names for the files. Gives the version or the help, if
     the program is to show one; otherwise it says that there are no files, or what is wrong."""
     words = [] if line.has("--apart") else ["--apart"]
+    is_once = [*line.values("--base"), *line.values(LIST), *line.named()].count(STANDARD_INPUT) < 2
     for name, value in line.options:
         if name not in OWN:
-            words.append(spelled(name, os.devnull if name == LIST and value is not None else value))
-    words += [] if line.has(LIST) else [f"{LIST}={os.devnull}"]
+            words.append(spelled(name, os.devnull if name == LIST and value is not None and is_once else value))
+    if is_once:
+        words += [] if line.has(LIST) else [f"{LIST}={os.devnull}"]
+    else:
+        words += [name for name in line.files if name == STANDARD_INPUT]  # The program will refuse this.
     words += [word for word in line.words if not is_text(word)]
     looked = subprocess.run([PROGRAM, *words], stdin=subprocess.DEVNULL, stdout=subprocess.PIPE, stderr=subprocess.PIPE)
     if looked.returncode == 0:
@@ -729,18 +841,19 @@ def run(line):
     shown = shown_by_program(line)
     if shown is not None:
         return show(shown)
-    names = line.files + (names_from(line.value(LIST)) if line.has(LIST) else [])
+    names = line.named() + (names_from(line.value(LIST)) if line.has(LIST) else [])
     if not names:
         raise NoText(f"{PROGRAM}: 41 FileCount\n")
+    sides = [side_of(side) for side in (line.values("--base"), names)]
     expect_dask(workers_of(line))
     # All workers see the current folder, and the folder of parts.
     parts, rest = folder_of_parts(line), os.getcwd() if line.has("--scheduler") else tempfile.gettempdir()
     with room_in([rest] if parts is None else [parts, rest]) as room, client_of(line, room) as client:
         flags = [f"--group-by={columns_of(line)}", *sorted(line.flags(OF_TABLES))]
         work = Work(os.getcwd(), room, flags, head_of(line), program, parts)
-        sizes = sizes_of_parts(work)
-        sides = [list(traces_of(work, side, sizes)) for side in (line.values("--base"), names)]
-        return print_text(line, *sum_files(client, work, sides))
+        sizes, given = sizes_of_parts(work), [keep_given(work)] if any(STANDARD_INPUT in side.names for side in sides) else []
+        traces = [list(traces_of(work, side.names, sizes, given)) for side in sides]
+        return print_text(line, sides, sum_files(client, work, traces))
 
 
 def show(text):

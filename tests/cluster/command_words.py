@@ -1,6 +1,8 @@
 """Words of the command for Dask: what is said of them, and which files they name, must be what the program says with --apart."""
+import json
 import os
 import re
+import shutil
 import subprocess
 import sys
 
@@ -56,6 +58,57 @@ SAME = {
     "help behind an unknown option": ["--sael", "--help"],
     "a word that is not text": ["--json", b"\xff"],
 }
+# The same of folders, most of which have traces with these names, and others that don't count; one is a link, and the last has names that
+# are no text.
+BELOW = [".k.json", ".l/m.json", "b.json", "sub/b.json", "sub/a.json", "sub-.json", "sub.json/c.json", "d.jsonl", "Z.json"]
+ODD = 'odd "é"'
+SPOILED = ".spoiled"
+OF_TREES = {
+    "a folder": ["--json", "tree"],
+    "a folder by file": ["--group-by", "file,name", "--top", "50", "tree"],
+    "a folder with a slash by file": ["--json", "--group-by", "name,file", "--only", "sub", "tree/"],
+    "a folder with slashes by file": ["--json", "--group-by", "file", "--skip", "tree", "tree//"],
+    "a folder with an odd name by file": ["--json", "--group-by", "args.\"file\",file,args.\"file\":", ODD],
+    "the folder that is the current one": ["--json", "--group-by", "file,args.detail", "."],
+    "folders by file": ["--json", "--group-by", "file", "tree", ODD],
+    "a folder twice by file": ["--json", "--group-by", "file", "tree", "tree"],
+    "a folder among files by file": ["--json", "--group-by", "file", "3.json", "tree", "cut.json", "tree/sub"],
+    "folders of both sides by file": ["--group-by", "file,name", "--base", "tree/", ODD],
+    "a folder of the base by file": ["--json", "--group-by", "file", "--base", "tree/sub", "tree", "tree/sub"],
+    "folders of async spans by file": ["--of", "async", "--group-by", "file,name", "--base", "tree", "tree/sub"],
+    "a folder in a list": ["--json", "--group-by", "file", "--files-from", "tree/list"],
+    "a folder behind a list": ["--json", "--group-by", "file", "--files-from", "tree/list", ODD],
+    "a folder as a list": ["--json", "--files-from", "tree"],
+    "a folder without a trace": ["--json", "3.json", "none"],
+    "a folder without a trace behind a missing file": ["--json", "none.json", "none/"],
+    "a folder without a trace in a list that is missing": ["--json", "--files-from", "none.list", "none"],
+    "a base without a trace": ["--base", "none", SPOILED],
+    "a name that is no text": ["--json", "none.json", SPOILED],
+    "a name that is no text beside a base": ["--base", "none.json", f"{SPOILED}/"],
+    "folders with two faults": ["--json", SPOILED, "none"],
+}
+# The same of words that name standard input, which has what follows.
+GIVEN = '[{"ph":"X","name":"given","ts":1,"dur":2},5]'
+OF_INPUT = {
+    "standard input": (["--json", "-"], GIVEN),
+    "standard input by file": (["--json", "--group-by", "file", "3.json", "-", "cut.json"], GIVEN),
+    "standard input without a file": (["--top", "3"], GIVEN),
+    "standard input beside a base": (["--group-by", "file,name", "--base", "3.json"], GIVEN),
+    "standard input as the base": (["--group-by", "file,name", "--base=-", "3.json"], GIVEN),
+    "standard input that is no trace": (["--json", "3.json", "--", "-", "cut.json"], "5"),
+    "standard input that is too large": (["--json", "-"], " " * (64 << 20) + "5"),
+    "standard input of which a file is missing": (["--json", "none.json", "-"], GIVEN),
+    "standard input with a limit": (["--json", "--limit=1", "-"], GIVEN.replace("5", GIVEN[1:-3])),
+    "standard input twice": (["--json", "-", "3.json", "-"], GIVEN),
+    "standard input as base and file": (["--base", "-", "-"], GIVEN),
+    "standard input as the base alone": (["--base", "-"], GIVEN),
+    "standard input as list and file": (["--json", "--files-from", "-", "-"], "3.json"),
+    "standard input as list and base": (["--json", "--files-from=-", "--base=-"], "3.json"),
+    "standard input twice, and no list": (["--json", "--files-from", "none", "-", "-"], GIVEN),
+    "standard input in a list": (["--json", "--group-by", "file", "--files-from", "inputs"], GIVEN),
+    "standard input before a list that has it": (["--json", "--files-from", "inputs", "-"], GIVEN),
+    "standard input in a list that it is": (["--json", "--files-from", "-"], "3.json\n-\n"),
+}
 # Words of the command's own, and what is said of them.
 OWN = {
     "--workers beside --scheduler": (["--scheduler", "a:1", "--workers", "2"], "'--workers <N>' cannot be used with '--scheduler"),
@@ -80,24 +133,64 @@ def engine(*words):
 def expect_all_options(bench):
     """That each option of the program's help is among the words, so that a new one isn't forgotten."""
     known = set(re.findall(r"^ +(?:-\w, )?(--[a-z-]+)", bench.outcome([bench.program, "--help"])[1].decode(), re.MULTILINE))
-    tried = [*SAME.values(), *(words for words, _ in OWN.values())]
+    tried = [*SAME.values(), *OF_TREES.values(), *(words for words, _ in OWN.values())]
     options = {word.partition("=")[0] for words in tried for word in words if isinstance(word, str)}
     if "--top" not in known or known - options:
         fail(f"no words have {sorted(known - options)}")
 
 
+def put(bench, name, text):
+    path = os.path.join(os.fsencode(bench.folder), os.fsencode(name))
+    os.makedirs(os.path.dirname(path), exist_ok=True)
+    with open(path, "w", encoding="utf-8") as file:
+        file.write(text)
+
+
+def put_trees(bench):
+    for place, name in enumerate(BELOW):
+        events = [{"ph": "X", "name": "a", "ts": 1, "dur": place}, {"ph": "b", "cat": "c", "name": "n", "id": 1, "ts": place}]
+        put(bench, f"linked/{name}", json.dumps([*events, *[5] * (place % 2)]))
+        events.append({"ph": "X", "name": ',"file":"', "ts": 4, "dur": place, "args": {'"file"': name}})
+        put(bench, f"{ODD}/{name}", json.dumps(events)[: -2 if place == 5 else None])
+    put(bench, "linked/list", "tree/sub\n")
+    put(bench, "inputs", "3.json\0-\0cut.json")
+    for name, target in {"linked/e.json": "b.json", "linked/self": ".", "tree": "linked"}.items():
+        os.symlink(target, os.path.join(bench.folder, name))
+    put(bench, "none/a.txt", "")
+    put(bench, f"{SPOILED}/a.json", "[]")
+    for name in b"b/.\xff", b"b/c/\xff":
+        put(bench, os.path.join(SPOILED.encode(), name), "")
+
+
+def remove_all(bench):
+    """Removes what isn't among the traces."""
+    for name in set(os.listdir(bench.folder)).difference(bench.names):
+        path = os.path.join(bench.folder, name)
+        if os.path.isdir(path) and not os.path.islink(path):
+            shutil.rmtree(path)
+        else:
+            os.remove(path)
+
+
+def expect_same(bench, what, words, *given):
+    wanted = bench.outcome([bench.program, *([] if "--apart" in words else ["--apart"]), *words], *given)
+    found = bench.outcome(engine(*words), *given)
+    if found != wanted:
+        fail(f"{what}: {words} gave {found}, and not {wanted}")
+
+
 def try_same(bench):
     for name in *ODD_NAMES, "cut.json":
-        with open(os.path.join(bench.folder, name), "w", encoding="utf-8") as file:
-            file.write('[{"ph":"X","name":"odd","ts":1,"dur":2}' + ("]" if name != "cut.json" else ',{"ph'))
+        put(bench, name, '[{"ph":"X","name":"odd","ts":1,"dur":2}' + ("]" if name != "cut.json" else ',{"ph'))
     for what, words in SAME.items():
-        wanted = bench.outcome([bench.program, *([] if "--apart" in words else ["--apart"]), *words])
-        found = bench.outcome(engine(*words))
-        if found != wanted:
-            fail(f"{what}: {words} gave {found}, and not {wanted}")
-    for name in *ODD_NAMES, "cut.json":
-        os.remove(os.path.join(bench.folder, name))
-    print(f"{len(SAME)} kinds of words", flush=True)
+        expect_same(bench, what, words)
+    put_trees(bench)
+    for what, words in OF_TREES.items():
+        expect_same(bench, what, words)
+    for what, (words, given) in OF_INPUT.items():
+        expect_same(bench, what, words, given.encode())
+    remove_all(bench)
+    print(f"{len(SAME) + len(OF_TREES) + len(OF_INPUT)} kinds of words", flush=True)
 
 
 def try_own(bench):

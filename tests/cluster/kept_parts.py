@@ -20,14 +20,14 @@ NO_FILES = {"a dangling link": lambda path: os.symlink("nowhere", path), "a fold
 NOBODY = 65534
 
 
-def kept_run(bench, what, read, notes=(), words=(), by=BY_FILE):
+def kept_run(bench, what, read, notes=(), words=(), by=BY_FILE, names=None):
     """Runs the engine with parts, and expects that just these files are read."""
-    words = [*by, *words]
+    words, names = [*by, *words], names or bench.names
     bench.watched.read()
-    found = bench.engine(["--parts", "parts", *words], bench.names)
+    found = bench.engine(["--parts", "parts", *words], names)
     if bench.watched.read() != sorted(read):
         fail(f"{what}: other files were read than {sorted(read)}")
-    bench.expect(what, words, bench.names, found, notes)
+    bench.expect(what, words, names, found, notes)
 
 
 def part_of(bench, kind, holds):
@@ -87,9 +87,20 @@ def try_parts(bench):
     kept_run(bench, "parts of async spans are taken", [], words=["--of", "async", "--only", "a"])
     shutil.rmtree(os.path.join(bench.folder, "parts"))
     kept_run(bench, "no part is kept any more", bench.names)
+    try_folder(bench)
     try_other_kinds(bench)
     try_no_files(bench)
     try_closed_folder(bench)
+
+
+def try_folder(bench):
+    """The parts of files serve under their names and under that of their folder."""
+    below = [f"./{name}" for name in bench.names]
+    kept_run(bench, "parts of a folder's files are kept", below, names=["."])
+    kept_run(bench, "parts of a folder's files are taken", [], names=["."])
+    kept_run(bench, "parts of a folder's files are taken by their names", [], names=below)
+    shutil.rmtree(os.path.join(bench.folder, "parts"))
+    kept_run(bench, "no part of a folder is kept any more", bench.names)
 
 
 def try_other_kinds(bench):
