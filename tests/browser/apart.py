@@ -1,5 +1,6 @@
 """Views of pages whose files are runs of their own, and of the files in the head of any page."""
 import json
+import os
 
 from page_texts import data_of, page_text
 from pages import Graph, Keys, MadePage, Page, expect
@@ -344,6 +345,16 @@ def try_with_files(driver, program, folder):
     page.expect_silence()
 
 
+def try_folder(driver, program, folder):
+    """The same where the files are those of a folder, and the column has their paths below it."""
+    os.makedirs(os.path.join(folder, "traces"))
+    put_traces(os.path.join(folder, "traces"), SAME)
+    page = Page(driver, program, ["--apart", "--group-by", "file,name", "traces"], folder=folder)
+    for check in [check_rows_by_file, check_marks_of_files]:
+        check(page)
+    page.expect_silence()
+
+
 def try_named_twice(driver, program, folder):
     """A file that is named twice is two runs, whose rows are one, since they have one name."""
     put_traces(folder, SAME)
@@ -479,6 +490,6 @@ def check_without_runs(page, spans):
 
 def try_apart(driver, program, folder):
     """All views of files; gives the time in which the page of the most files is ready, and in which it does what it is asked."""
-    for view in [try_threads, try_one_apart, try_together, try_summed, try_with_files, try_named_twice, try_odd_names]:
+    for view in [try_threads, try_one_apart, try_together, try_summed, try_with_files, try_folder, try_named_twice, try_odd_names]:
         view(driver, program, folder)
     return try_many(driver, program, folder)
