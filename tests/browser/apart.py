@@ -244,7 +244,7 @@ def try_threads(driver, program, folder):
 def try_one_apart(driver, program, folder):
     """A page of one file is of one run, whether or not it is one of its own: there is no file to choose, and the address has today's form."""
     put_traces(folder, THREADS)
-    for words, share in [(["one.json"], "70.0 %"), (["--apart", "one.json"], "70.0 %"), (["--apart", "--group-by", "file,name", "one.json"], "46.7 %")]:
+    for words, share in [(["one.json"], "70.0 %"), (["--apart", "one.json"], "70.0 %"), (["--apart", "--group-by", "file,name", "one.json"], "70.0 %")]:
         page = Page(driver, program, words, folder=folder)
         expect(f"the first row of {words}", page.rows("#names")[0][:3], ["alpha", "70", share])
         expect(f"the first count of {words}", page.text("#counts > :first-child"), "file one.json")

@@ -131,8 +131,8 @@ const category = textColumn("category", (row) => row.category);
 
 function spanTable() {
   const self = timeColumn("self", (row) => row.self, { bar: (row, most) => fraction(row.self, most) });
-  const share = numberColumn("of busy", (row) => fraction(row.self, row.place.busy), {
-    fill: (row) => shareText(row.self, row.place.busy) });
+  const share = numberColumn("of busy", (row) => fraction(row.self, busyOf(row)), {
+    fill: (row) => shareText(row.self, busyOf(row)) });
   const count = numberColumn("count", (row) => row.count);
   const [first, ...others] = keyColumns();
   const isWide = ({ kind }) => kind !== undefined;
@@ -221,6 +221,33 @@ const knownLabels = new Map();
 function labelsOf(thread) {
   if (!knownLabels.has(thread)) knownLabels.set(thread, [...new Set(stacks[thread.at].flatMap(([, labels]) => labels))]);
   return knownLabels.get(thread);
+}
+
+const threadsOfLabels = new Map();
+
+/** The threads whose frames have a label. */
+function threadsOf(label) {
+  if (threadsOfLabels.size === 0) {
+    for (const thread of report.threads.filter(hasGraph)) {
+      for (const own of labelsOf(thread)) {
+        if (!threadsOfLabels.has(own)) threadsOfLabels.set(own, []);
+        threadsOfLabels.get(own).push(thread);
+      }
+    }
+  }
+  return threadsOfLabels.get(label) ?? [];
+}
+
+/** The busy time of the threads that a row is of: those of its place that have a frame with its label, or whose graph is left out, so that
+ * it isn't known; of a row without such a thread, that of its place. */
+function busyOf(row) {
+  row.busy ??= busyTimeOf(threadsOf(row.label).filter((thread) => row.place.has.has(thread))) + leftOutTimeOf(row.place);
+  return row.busy === 0n ? row.place.busy : row.busy;
+}
+
+function leftOutTimeOf(place) {
+  place.leftOut ??= busyTimeOf(place.threads.filter(isLeftOut));
+  return place.leftOut;
 }
 
 class Graphs {

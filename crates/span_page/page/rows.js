@@ -59,10 +59,14 @@ function byKey(items, keyOf) {
 /** The threads for each list of what these columns have of them, with their busy time. */
 function placesOf(columns, threads) {
   const keyOf = (thread) => JSON.stringify(columns.map((column) => PLACES[column](thread)));
-  return new Map([...byKey(threads, keyOf)].map(([key, own]) => [key, { threads: own, busy: add(own.map(({ busy }) => busy)) }]));
+  return new Map([...byKey(threads, keyOf)].map(([key, own]) => [key, { threads: own, has: new Set(own), busy: busyTimeOf(own) }]));
 }
 
-const NOWHERE = { threads: [], busy: 0n };
+function busyTimeOf(threads) {
+  return add(threads.map(({ busy }) => busy));
+}
+
+const NOWHERE = { threads: [], has: new Set(), busy: 0n };
 
 class SpanTable {
   /** The table of a text, of the spans of these threads. */
