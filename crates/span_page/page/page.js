@@ -13,7 +13,7 @@ const runs = data.runs ?? [data];
 const isApart = runs.length > 1;
 const report = readRuns(runs);
 const stacks = runs.flatMap((run) => run.stacks);
-const spans = new SpanTable(data.table, report.threads);
+const spans = new SpanTable(data.table, report);
 // All runs of a page have one unit. A page without its runs has no report that says it.
 const unit = runs.length > 0 ? report.unit : spans.unit;
 
@@ -29,7 +29,7 @@ function isNamed(name, wanted = narrowed.wanted) {
 
 /** Tests whether frames of a thread that have a label are named so. Where rows have files, words can be those of the thread's file. */
 function labelTestOf({ file }) {
-  const own = spans.columns.includes("file") ? file.name.toLowerCase() : "";
+  const own = spans.columns.includes("file") ? (file?.inTable ?? "").toLowerCase() : "";
   const wanted = narrowed.wanted.filter((word) => !own.includes(word));
   const isUnwanted = narrowed.unwanted.some((word) => own.includes(word));
   return (label) => !isUnwanted && isNamed(label, wanted);

@@ -12,7 +12,7 @@ const PLACES = {
   tid: (thread) => thread.number,
   process: (thread) => thread.process.name,
   thread: (thread) => thread.name,
-  file: (thread) => thread.file?.name ?? null,
+  file: (thread) => thread.file?.inTable ?? null,
 };
 
 const isPlace = (column) => Object.hasOwn(PLACES, column);
@@ -62,6 +62,15 @@ function placesOf(columns, threads) {
   return new Map([...byKey(threads, keyOf)].map(([key, own]) => [key, { threads: own, has: new Set(own), busy: busyTimeOf(own) }]));
 }
 
+/** Puts to each file the name that the table has it by: its own, or its path below the folder that all files are of. */
+function nameInTable(files, names) {
+  const own = files.filter(({ hasSpans }) => hasSpans).map(({ name }) => name);
+  const cuts = [0, ...[...(own[0] ?? "").matchAll(/\//g)].map(({ index }) => index + 1)];
+  const isOfNames = (cut) => names.isSubsetOf(new Set(own.map((name) => name.slice(cut))));
+  const cut = cuts.find(isOfNames) ?? 0;
+  for (const file of files) file.inTable = file.name.slice(cut);
+}
+
 function busyTimeOf(threads) {
   return add(threads.map(({ busy }) => busy));
 }
@@ -69,8 +78,8 @@ function busyTimeOf(threads) {
 const NOWHERE = { threads: [], has: new Set(), busy: 0n };
 
 class SpanTable {
-  /** The table of a text, of the spans of these threads. */
-  constructor(text, threads) {
+  /** The table of a text, of the spans of what was traced. */
+  constructor(text, { files, threads }) {
     const [head, ...lines] = text.split("\n").slice(0, -1);
     const counts = JSON.parse(head);
     const { columns } = counts;
@@ -80,18 +89,26 @@ class SpanTable {
     this.inWords = indexesOf(isOfWords);
     this.labelTitle = this.inLabel.map((at) => columns[at]).join(" ") || "label";
     // Values are known by their texts, since most stand in many rows.
-    Object.assign(this, { columns, counts, values: new Map(), places: placesOf(columns.filter(isPlace), threads), labelled: null });
+    Object.assign(this, { columns, counts, values: new Map(), labelled: null });
     this.unit = counts.unit === NANOSECONDS.sign ? NANOSECONDS : MICROSECONDS;
     this.rows = lines.map((line) => this.rowOf(membersOf(line)));
+    const fileAt = columns.indexOf("file");
+    if (fileAt >= 0) nameInTable(files, new Set(this.rows.map(({ values }) => values[fileAt].word)));
+    this.places = placesOf(columns.filter(isPlace), threads);
+    for (const row of this.rows) row.place = this.placeOf(row);
   }
 
-  /** A row: the values of its key, its sums, the threads that it can be of, its label, and the words that are looked through for it. */
+  /** A row: the values of its key, its sums, its label, and the words that are looked through for it. */
   rowOf(members) {
     const values = this.columns.map((column) => this.valueOf(members.get(column)));
     const textOf = (indexes) => indexes.map((at) => values[at].word).filter((word) => word !== null).join(" ");
     const [count, total, self] = ["count", "total", "self"].map((name) => BigInt(members.get(name)));
-    const place = this.places.get(JSON.stringify(this.inPlace.map((at) => values[at].word))) ?? NOWHERE;
-    return { values, count, total, self, place, label: textOf(this.inLabel), words: textOf(this.inWords) };
+    return { values, count, total, self, place: NOWHERE, label: textOf(this.inLabel), words: textOf(this.inWords) };
+  }
+
+  /** The threads that a row can be of. */
+  placeOf({ values }) {
+    return this.places.get(JSON.stringify(this.inPlace.map((at) => values[at].word))) ?? NOWHERE;
   }
 
   valueOf(text) {

@@ -25,6 +25,7 @@ function readRuns(runs) {
   const report = { files, processes: [], threads: [], instants: [], counters: [], asyncs: [], flows: [], file: null, unit: MICROSECONDS };
   runs.forEach((run, at) => {
     report.file = run.files.length === 1 ? files[at] : null;
+    if (report.file !== null) report.file.hasSpans = /^span /m.test(run.report);
     readReport(report, run.report);
   });
   return report;

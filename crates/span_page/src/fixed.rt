@@ -4,7 +4,7 @@ pub(crate) const BEFORE: &str = r#"<!DOCTYPE html>
 <html lang="en">
 <head>
 <meta charset="utf-8">
-<meta http-equiv="Content-Security-Policy" content="default-src 'none'; script-src 'sha256-JkqE0jJdWvuqIgDVr4QsAdlCo+Os2qLqkmViqTfTLwc='; style-src 'sha256-l0GSLk8mSCWf3MAzl3a1aPwdpnW8mPlPL5MC084zi/o='; base-uri 'none'; form-action 'none'">
+<meta http-equiv="Content-Security-Policy" content="default-src 'none'; script-src 'sha256-pSuT6mU1xZSgP9e2vbvaWLiTpXONOOJpsm0R2G5PecA='; style-src 'sha256-l0GSLk8mSCWf3MAzl3a1aPwdpnW8mPlPL5MC084zi/o='; base-uri 'none'; form-action 'none'">
 <meta name="viewport" content="width=device-width, initial-scale=1">
 <meta name="color-scheme" content="light dark">
 <title>tracebook</title>
@@ -340,6 +340,7 @@ function readRuns(runs) {
   const report = { files, processes: [], threads: [], instants: [], counters: [], asyncs: [], flows: [], file: null, unit: MICROSECONDS };
   runs.forEach((run, at) => {
     report.file = run.files.length === 1 ? files[at] : null;
+    if (report.file !== null) report.file.hasSpans = /^span /m.test(run.report);
     readReport(report, run.report);
   });
   return report;
@@ -359,7 +360,7 @@ const PLACES = {
   tid: (thread) => thread.number,
   process: (thread) => thread.process.name,
   thread: (thread) => thread.name,
-  file: (thread) => thread.file?.name ?? null,
+  file: (thread) => thread.file?.inTable ?? null,
 };
 
 const isPlace = (column) => Object.hasOwn(PLACES, column);
@@ -409,6 +410,15 @@ function placesOf(columns, threads) {
   return new Map([...byKey(threads, keyOf)].map(([key, own]) => [key, { threads: own, has: new Set(own), busy: busyTimeOf(own) }]));
 }
 
+/** Puts to each file the name that the table has it by: its own, or its path below the folder that all files are of. */
+function nameInTable(files, names) {
+  const own = files.filter(({ hasSpans }) => hasSpans).map(({ name }) => name);
+  const cuts = [0, ...[...(own[0] ?? "").matchAll(/\//g)].map(({ index }) => index + 1)];
+  const isOfNames = (cut) => names.isSubsetOf(new Set(own.map((name) => name.slice(cut))));
+  const cut = cuts.find(isOfNames) ?? 0;
+  for (const file of files) file.inTable = file.name.slice(cut);
+}
+
 function busyTimeOf(threads) {
   return add(threads.map(({ busy }) => busy));
 }
@@ -416,8 +426,8 @@ function busyTimeOf(threads) {
 const NOWHERE = { threads: [], has: new Set(), busy: 0n };
 
 class SpanTable {
-  /** The table of a text, of the spans of these threads. */
-  constructor(text, threads) {
+  /** The table of a text, of the spans of what was traced. */
+  constructor(text, { files, threads }) {
     const [head, ...lines] = text.split("\n").slice(0, -1);
     const counts = JSON.parse(head);
     const { columns } = counts;
@@ -427,18 +437,26 @@ class SpanTable {
     this.inWords = indexesOf(isOfWords);
     this.labelTitle = this.inLabel.map((at) => columns[at]).join(" ") || "label";
     // Values are known by their texts, since most stand in many rows.
-    Object.assign(this, { columns, counts, values: new Map(), places: placesOf(columns.filter(isPlace), threads), labelled: null });
+    Object.assign(this, { columns, counts, values: new Map(), labelled: null });
     this.unit = counts.unit === NANOSECONDS.sign ? NANOSECONDS : MICROSECONDS;
     this.rows = lines.map((line) => this.rowOf(membersOf(line)));
+    const fileAt = columns.indexOf("file");
+    if (fileAt >= 0) nameInTable(files, new Set(this.rows.map(({ values }) => values[fileAt].word)));
+    this.places = placesOf(columns.filter(isPlace), threads);
+    for (const row of this.rows) row.place = this.placeOf(row);
   }
 
-  /** A row: the values of its key, its sums, the threads that it can be of, its label, and the words that are looked through for it. */
+  /** A row: the values of its key, its sums, its label, and the words that are looked through for it. */
   rowOf(members) {
     const values = this.columns.map((column) => this.valueOf(members.get(column)));
     const textOf = (indexes) => indexes.map((at) => values[at].word).filter((word) => word !== null).join(" ");
     const [count, total, self] = ["count", "total", "self"].map((name) => BigInt(members.get(name)));
-    const place = this.places.get(JSON.stringify(this.inPlace.map((at) => values[at].word))) ?? NOWHERE;
-    return { values, count, total, self, place, label: textOf(this.inLabel), words: textOf(this.inWords) };
+    return { values, count, total, self, place: NOWHERE, label: textOf(this.inLabel), words: textOf(this.inWords) };
+  }
+
+  /** The threads that a row can be of. */
+  placeOf({ values }) {
+    return this.places.get(JSON.stringify(this.inPlace.map((at) => values[at].word))) ?? NOWHERE;
   }
 
   valueOf(text) {
@@ -1197,7 +1215,7 @@ const runs = data.runs ?? [data];
 const isApart = runs.length > 1;
 const report = readRuns(runs);
 const stacks = runs.flatMap((run) => run.stacks);
-const spans = new SpanTable(data.table, report.threads);
+const spans = new SpanTable(data.table, report);
 // All runs of a page have one unit. A page without its runs has no report that says it.
 const unit = runs.length > 0 ? report.unit : spans.unit;
 
@@ -1213,7 +1231,7 @@ function isNamed(name, wanted = narrowed.wanted) {
 
 /** Tests whether frames of a thread that have a label are named so. Where rows have files, words can be those of the thread's file. */
 function labelTestOf({ file }) {
-  const own = spans.columns.includes("file") ? file.name.toLowerCase() : "";
+  const own = spans.columns.includes("file") ? (file?.inTable ?? "").toLowerCase() : "";
   const wanted = narrowed.wanted.filter((word) => !own.includes(word));
   const isUnwanted = narrowed.unwanted.some((word) => own.includes(word));
   return (label) => !isUnwanted && isNamed(label, wanted);
