@@ -4,9 +4,9 @@ ghost use Rattle.clap.specs.Words.{app_of, rule_of};
 ghost use Rattle.span_options.specs.Command.{command, list, number, option, others, rest, settings, switch, tables, texts};
 
 use crate::help::{
-    ABOUT, ADD_HELP, AFTER, APART_HELP, BASE_HELP, BY_HELP, FILE_HELP, FILES_FROM_HELP, FOLDED_HELP,
-    GROUP_BY_HELP, JOBS_HELP, JSON_HELP, NANOSECONDS_HELP, OF_HELP, ONLY_HELP, PAGE_HELP,
-    REFUSED_HELP, REPEATS_HELP, SEAL_HELP, SKIP_HELP, STRICT_HELP, TOP_HELP,
+    ABOUT, ADD_HELP, AFTER, APART_HELP, BASE_HELP, BY_HELP, FILE_HELP, FILES_FROM_HELP,
+    FOLDED_HELP, GROUP_BY_HELP, JOBS_HELP, JSON_HELP, NANOSECONDS_HELP, OF_HELP, ONLY_HELP,
+    PAGE_HELP, REFUSED_HELP, REPEATS_HELP, SEAL_HELP, SKIP_HELP, STRICT_HELP, TOP_HELP,
 };
 use clap::builder::ValueParser;
 use clap::{Arg, ArgAction, Command};
