@@ -5,10 +5,13 @@ import re
 import shutil
 import subprocess
 import sys
+from concurrent.futures import ThreadPoolExecutor
 
 from bench import ENGINE, fail
 from loopback import PATIENCE
 
+# How many commands run side by side where one has nothing to do with another: most of their time is Dask's own start.
+AT_A_TIME = 4
 # Files with the name of what ends options, of an option, and of standard input.
 ODD_NAMES = ["--", "--json", "./-"]
 # Words of which the program says the same with --apart.
@@ -182,15 +185,13 @@ def expect_same(bench, what, words, *given):
 def try_same(bench):
     for name in *ODD_NAMES, "cut.json":
         put(bench, name, '[{"ph":"X","name":"odd","ts":1,"dur":2}' + ("]" if name != "cut.json" else ',{"ph'))
-    for what, words in SAME.items():
-        expect_same(bench, what, words)
     put_trees(bench)
-    for what, words in OF_TREES.items():
-        expect_same(bench, what, words)
-    for what, (words, given) in OF_INPUT.items():
-        expect_same(bench, what, words, given.encode())
+    kinds = [*SAME.items(), *OF_TREES.items()]
+    kinds += [(what, words, given.encode()) for what, (words, given) in OF_INPUT.items()]
+    with ThreadPoolExecutor(AT_A_TIME) as pool:
+        list(pool.map(lambda kind: expect_same(bench, *kind), kinds))
     remove_all(bench)
-    print(f"{len(SAME) + len(OF_TREES) + len(OF_INPUT)} kinds of words", flush=True)
+    print(f"{len(kinds)} kinds of words", flush=True)
 
 
 def try_own(bench):
