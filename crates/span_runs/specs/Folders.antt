@@ -1,5 +1,5 @@
 -- Folders, and the files that names stand for where folders are among them.
-use Rattle.std.specs.{List.AllZip, Prelude.{◌≡◌, ◌⊎◌, ⊤, ℕ, ◌-◌, ◌==◌, if◌then◌else◌, Bool, false, List, [], ◌∷◌, ◌++◌, codes, flat_map, length, map, slice_get, Option, Some, None}}
+use Rattle.std.specs.{List.AllZip, Prelude.{◌≡◌, ◌<◌, ◌⊎◌, ⊤, ℕ, ◌-◌, ◌==◌, if◌then◌else◌, Bool, false, List, [], ◌∷◌, ◌++◌, codes, flat_map, length, map, slice_get, Option, Some, None}}
 use Rattle.span_runs.specs.{Bytes, FileCount, number_of, fault_line, unread_line, declared.{folders.Listed.Listed, source.{FolderFault.{FolderFault, TheVariants.{Memory, NotRead}}, Name.{Name, TheVariants.{Standard, File}}}}}
 
 -- What is known of a path: nothing; that it is no folder; the wanted files below it, by their paths below it; or the path of the folder,
@@ -39,25 +39,34 @@ ends_in_slash path = is_slash (slice_get path (length path - 1))
 abbrev pub beginning : Bytes → Bytes
 beginning folder = if ends_in_slash folder then folder else folder ++ codes "/"
 
--- the files that a path stands for: itself, or the files below it, which are some
-abbrev pub AreFilesAt : Folder → Bytes → List Name → Type 0
-AreFilesAt unknown path names = ⊤
-AreFilesAt no_folder path names = names ≡ File path ∷ []
-AreFilesAt (has_files []) path names = ⊥
-AreFilesAt (has_files (first ∷ more)) path names = names ≡ map (λ below. File (beginning path ++ below)) (first ∷ more)
-AreFilesAt (fails_at at) path names = ⊥
+-- the files that a path stands for, where these are below it: itself, where it is no folder
+abbrev pub files_at : Bytes → Option (List Bytes) → List Name
+files_at path None = File path ∷ []
+files_at path (Some below) = map (λ own. File (beginning path ++ own)) below
+
+-- how many bytes of each path the column of files leaves out, where one path is named and nothing else: what paths below a folder begin with
+abbrev pub cut_at : Bytes → Option (List Bytes) → ℕ
+cut_at path None = 0
+cut_at path (Some below) = length (beginning path)
+
+-- these are the files that a path stands for, which are some
+pub record AreFilesAt (known : Folder) (path : Bytes) (names : List Name) : Type 0 where
+  pub found : Option (List Bytes)
+  pub has : HasBelow known found
+  pub some : 0 < length names
+  pub are : names ≡ files_at path found
+
+pub record CutsAt (known : Folder) (path : Bytes) (cut : ℕ) : Type 0 where
+  pub found : Option (List Bytes)
+  pub has : HasBelow known found
+  pub is : cut ≡ cut_at path found
 
 -- the files that a name stands for
 abbrev pub StandsFor : SourceFolders → Bytes → Name → List Name → Type 0
 StandsFor folders ending Standard names = names ≡ Standard ∷ []
 StandsFor folders ending (File path) names = AreFilesAt (folders ending path) path names
 
--- how many bytes of each path the column of files leaves out: where one folder is named and nothing else, what paths begin with
-abbrev pub CutsAt : Folder → Bytes → ℕ → Type 0
-CutsAt unknown path cut = ⊤
-CutsAt no_folder path cut = cut ≡ 0
-CutsAt known path cut = cut ≡ length (beginning path)
-
+-- how much is left out where these are named: nothing, where they are several
 abbrev pub Cuts : SourceFolders → Bytes → List Name → ℕ → Type 0
 Cuts folders ending (File path ∷ []) cut = CutsAt (folders ending path) path cut
 Cuts folders ending names cut = cut ≡ 0
