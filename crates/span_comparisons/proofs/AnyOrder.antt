@@ -1,5 +1,5 @@
 -- Repeated runs with their repetitions in another order, and which keys are counted.
-use Rattle.std.specs.{List.{list_any, sum_by, Sorted.IsPermutation}, Prelude.{filter, flat_map, not, ◌&&◌}}
+use Rattle.std.specs.{List.{list_any, sum_by, Sorted.IsPermutation}, Prelude.{filter, not, ◌&&◌}}
 use Rattle.std.proofs.{Common.{◌≡◌, ℕ, ◌+◌, ◌-◌, ◌/◌, ◌≤◌, Bool, true, false, cond, ◌||◌, List, [], ◌∷◌, ◌++◌, length, get_or, map, refl, sym, ap, ◌∙◌, arith}, lemmas.List.{Sorted.{IsPermutation-append, IsPermutation-map, length_permutation, list_any-IsPermutation, sum_by-IsPermutation}, Sums.{length-filter, sum_by-cons}}}
 use Rattle.span_keyed_tracks.proofs.{Keyed.has_key, Sorting.ascending-permutation}
 use Rattle.span_table.proofs.{AddedTables.counts-same, Alike.{has_key-append, same_keys}}

@@ -1,6 +1,5 @@
 pub mod AnyOrder
 pub mod Compared
-pub mod Differences
 pub mod Itself
 pub mod Permuted
 pub mod RepeatedKeys

@@ -1,10 +1,10 @@
 -- Two tables compared the other way round.
-use Rattle.std.specs.{BTreeSet.insert_key, Cmp.{nat_cmp_is, nat_eq_equiv}, Fmt.decimal, List.Contains, Ordering.{match_ordering, nat_cmp, ordering_then}, Prelude.{codes, filter, fold, not}, declared.cmp.Ordering.{Ordering, TheVariants.{Less, Equal, Greater}}}
+use Rattle.std.specs.{BTreeSet.insert_key, Cmp.{nat_cmp_is, nat_eq_equiv}, Fmt.decimal, Int.abs_diff, List.Contains, Ordering.{match_ordering, nat_cmp, ordering_then}, Prelude.{codes, filter, fold, not}, declared.cmp.Ordering.{Ordering, TheVariants.{Less, Equal, Greater}}}
 use Rattle.std.proofs.{Common.{◌≡◌, ℕ, ◌-◌, ◌&&◌, List, [], ◌∷◌, ◌++◌, length, map, refl, sym, ap, ap₂, ◌∙◌, add_comm, arith}, lemmas.List.{length-map, Sorted.{Contains-permutation, IsPermutation-append_comm, IsPermutation-map}}}
 use Rattle.span_self_time.proofs.Mapped.{filter-map}
 use Rattle.span_keyed_tracks.proofs.SameKeys.{ascending-members}
 use Rattle.span_journal.proofs.Sorted.{map-map}
-use Rattle.span_comparisons.specs.{ascending, Of, Number, leading_numbers, Row, gap, number_by, key_cmp_total, key_cmp-same, TableKey, key_cmp, Wanted, is_wanted, Changes.{Change, by_gap, change_order, changes_of, compared, compared_at, gap_by, is_changed, is_same, same_count, shown_changes, gaps_order}, Laws.{ComparisonsTurn, DifferencesTurn, turned}}
+use Rattle.span_comparisons.specs.{ascending, Of, Number, leading_numbers, Row, number_by, key_cmp_total, key_cmp-same, TableKey, key_cmp, Wanted, is_wanted, Changes.{Change, by_gap, change_order, changes_of, compared, compared_at, gap_by, is_changed, is_same, same_count, shown_changes, gaps_order}, Laws.{ComparisonsTurn, DifferencesTurn, turned}}
 use Rattle.span_comparisons.proofs.{Compared.length-changes, Permuted.key_of}
 
 keys-turned : (base other : List Row) → ascending key_cmp (map key_of (other ++ base)) ≡ ascending key_cmp (map key_of (base ++ other))
@@ -38,7 +38,7 @@ filter-turned changes = filter-map is_changed turned changes ∙ (λ i. map turn
 gap_by-turned : (by : Number) (c : Change) → gap_by by (turned c) ≡ gap_by by c
 gap_by-turned by c = turns (number_by by c.both.base) (number_by by c.both.other)
   where
-    turns : (m n : ℕ) → gap n m ≡ gap m n
+    turns : (m n : ℕ) → abs_diff n m ≡ abs_diff m n
     turns m n = add_comm (n - m) (m - n)
 
 by_gap-turned : (by : Number) (a b : Change) → by_gap by (turned a) (turned b) ≡ by_gap by a b

@@ -1,6 +1,6 @@
 -- What changed between two tables of the same columns.
-use Rattle.std.specs.{Ordering.{nat_cmp, ordering_then}, Prelude.{ℕ, ◌++◌, Bool, not, List, [], ◌∷◌, map, filter, count_by}, declared.cmp.Ordering.Ordering}
-use Rattle.span_comparisons.specs.{ascending, Of, Number, Row, TableKey, key_cmp, gap, leading_numbers, number_by, same_sums, Wanted, is_wanted, sums_at, declared.changes.Both.Both}
+use Rattle.std.specs.{Int.abs_diff, Ordering.{nat_cmp, ordering_then}, Prelude.{ℕ, ◌++◌, Bool, not, List, [], ◌∷◌, map, filter, count_by}, declared.cmp.Ordering.Ordering}
+use Rattle.span_comparisons.specs.{ascending, Of, Number, Row, TableKey, key_cmp, leading_numbers, number_by, same_sums, Wanted, is_wanted, sums_at, declared.changes.Both.Both}
 
 -- a key with its sums in both
 pub record Change : Type 0 where
@@ -27,7 +27,7 @@ is_changed change = not (is_same change.both)
 
 -- how far a number lies apart in both
 abbrev pub gap_by : Number → Change → ℕ
-gap_by by change = gap (number_by by change.both.base) (number_by by change.both.other)
+gap_by by change = abs_diff (number_by by change.both.base) (number_by by change.both.other)
 
 -- the greater gap first
 abbrev pub by_gap : Number → Change → Change → Ordering

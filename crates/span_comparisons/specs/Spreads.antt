@@ -1,6 +1,6 @@
 -- What repeated runs have of each key: on each side a value for each repetition, and how these are spread.
-use Rattle.std.specs.{Ordering.{nat_cmp, ordering_then}, Prelude.{ℕ, ◌-◌, ◌/◌, ◌==◌, nat_lt, if◌then◌else◌, Bool, not, ◌&&◌, ◌||◌, List, [], ◌∷◌, ◌++◌, map, flat_map, filter, length, get_or, count_by}, declared.cmp.Ordering.Ordering}
-use Rattle.span_comparisons.specs.{ascending, Number, Row, sums_at, gap, number_by, TableKey, key_cmp, Wanted, is_wanted, SpanTable, declared.spreads.Spread.Spread}
+use Rattle.std.specs.{Int.abs_diff, Ordering.{nat_cmp, ordering_then}, Prelude.{ℕ, ◌-◌, ◌/◌, ◌==◌, nat_lt, if◌then◌else◌, Bool, not, ◌&&◌, ◌||◌, List, [], ◌∷◌, ◌++◌, map, flat_map, filter, length, get_or, count_by}, declared.cmp.Ordering.Ordering}
+use Rattle.span_comparisons.specs.{ascending, Number, Row, sums_at, number_by, TableKey, key_cmp, Wanted, is_wanted, SpanTable, declared.spreads.Spread.Spread}
 
 -- a number put before the first that isn't less
 abbrev pub put_in_order : ℕ → List ℕ → List ℕ
@@ -63,7 +63,7 @@ is_overlap s = not (is_apart s) && not (has_same_spread s)
 
 -- how far the medians lie apart
 abbrev pub median_gap : Spreads → ℕ
-median_gap s = gap s.base.median s.other.median
+median_gap s = abs_diff s.base.median s.other.median
 
 -- the greatest change of the median first, and then by key
 abbrev pub spread_order : Spreads → Spreads → Ordering

@@ -2,7 +2,7 @@
 ghost use Rattle.std.specs.Prelude.{◌≡◌, ◌++◌, ◌∷◌, [], ◌<◌, ◌≤◌, ◌+◌, ◌-◌, ◌^◌, List, length, IfOk, OnOk};
 ghost use Rattle.span_comparisons.specs.{RowsRise, Changed.{Classifies, base_keys, new_key, new_keys}, Changes.{Change, by_gap, change_order, changes_of, compared, gap_by, gaps_order, is_changed, same_count, shown_changes}};
 
-use span_table::{Key, Number, Of, Row, Sum, Sums, row_at, sums_at};
+use span_table::{Key, Number, Of, Row, Sums, row_at, sums_at};
 use span_table_text::Shown;
 use std::alloc::{AllocError, Global};
 use std::cmp::Ordering;
@@ -37,10 +37,10 @@ impl<'a> Changed<'a> {
         !self.both.base.equals(&self.both.other)
     }
 
-    fn gap(&self, by: Number) -> Sum
+    fn gap(&self, by: Number) -> u128
         ensures { result ≡ gap_by by self.now }
     {
-        self.both.base.by(by).gap(&self.both.other.by(by))
+        self.both.base.by(by).abs_diff(self.both.other.by(by))
     }
 
     // Which of two comes first.
@@ -66,7 +66,7 @@ impl<'a> Changed<'a> {
     fn by_gap(&self, other: &Changed<'a>, by: Number) -> Ordering
         ensures { result ≡ by_gap by self.now other.now }
     {
-        other.gap(by).compare(&self.gap(by))
+        other.gap(by).cmp(&self.gap(by))
     }
 }
 

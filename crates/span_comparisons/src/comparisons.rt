@@ -6,7 +6,7 @@ ghost use Rattle.span_comparisons.specs.First.{first_lines};
 use crate::changes::{Both, Changed, differences};
 use crate::comparing::{Comparing, first_of, put_more};
 use span_report::{first_line, put_unit};
-use span_table::{EntryCounts, Number, Of, Sum, Table, TableCounts};
+use span_table::{EntryCounts, Number, Of, Table, TableCounts};
 use span_table_text::lines::{put_counts, put_runs, put_seals, put_shown};
 use span_table_text::rows::{Cell, put_row, put_titles};
 use std::alloc::{AllocError, Global};
@@ -167,22 +167,22 @@ fn push_cells(
 {
     let (base, other) = (both.base.by(number), both.other.by(number));
     if number.is_time() {
-        let apart = difference(alloc, &base, &other)?;
+        let apart = difference(alloc, base, other)?;
         cells.push(Cell::of(number, apart))?;
     }
-    cells.push(Cell::of(number, base.shown(alloc)?))?;
-    cells.push(Cell::of(number, other.shown(alloc)?))?;
+    cells.push(Cell::of(number, format!(in alloc; "{base}")?))?;
+    cells.push(Cell::of(number, format!(in alloc; "{other}")?))?;
     Ok(())
 }
 
 /// How much more the other has, with `+`, or how much less, with `-`.
-pub(crate) fn difference(alloc: Global, base: &Sum, other: &Sum) -> Result<String, AllocError>
-    ensures { IfOk result (λ text. string_bytes text ≡ difference_text base.now other.now) }
+pub(crate) fn difference(alloc: Global, base: u128, other: u128) -> Result<String, AllocError>
+    ensures { IfOk result (λ text. string_bytes text ≡ difference_text base other) }
 {
-    let apart = base.gap(other).shown(alloc)?;
-    match base.compare(other) {
+    let apart = base.abs_diff(other);
+    match base.cmp(&other) {
         Ordering::Less => format!(in alloc; "+{apart}"),
-        Ordering::Equal => Ok(apart),
+        Ordering::Equal => String::from_str(alloc, "0"),
         Ordering::Greater => format!(in alloc; "-{apart}"),
     }
 }

@@ -7,8 +7,8 @@ ghost use Rattle.span_comparisons.specs.{Appends, TooGreat, counts_fit, fit, num
 use crate::changes::{Both, Changed, ComparedTables, differences};
 use json::Writer;
 use span_event::{Text, Unit};
-use span_table::{Column, Number, Of, Sum, Table, TableCounts, counts_fit, fits};
-use span_table_text::members::{column_names, ended, put_counts, put_key, put_start, put_sum};
+use span_table::{Column, Number, Of, Table, TableCounts, counts_fit, fits};
+use span_table_text::members::{column_names, ended, put_counts, put_key, put_number, put_start};
 use span_table_text::{JsonFault, Shown};
 use std::alloc::{AllocError, Global};
 
@@ -185,7 +185,7 @@ fn put_both(
 {
     for number in numbers {
         let (base, other) = (both.base.by(*number), both.other.by(*number));
-        put_sides(alloc, writer, *number, &base, &other)?;
+        put_sides(alloc, writer, *number, base, other)?;
     }
     Ok(())
 }
@@ -194,17 +194,17 @@ fn put_sides(
     alloc: Global,
     writer: &mut Writer,
     number: Number,
-    base: &Sum,
-    other: &Sum,
+    base: u128,
+    other: u128,
 ) -> Result<(), AllocError>
-    requires base { base.now < 2 ^ 64 }
-    requires other { other.now < 2 ^ 64 }
+    requires base { base < 2 ^ 64 }
+    requires other { other < 2 ^ 64 }
     ensures { Appends result writer.old writer.new
-        (number_tokens (number_name number ++ codes "0") base.now
-        ++ number_tokens (number_name number ++ codes "1") other.now) }
+        (number_tokens (number_name number ++ codes "0") base
+        ++ number_tokens (number_name number ++ codes "1") other) }
 {
     let name = number.name();
     let (first, second) = (format!(in alloc; "{name}0")?, format!(in alloc; "{name}1")?);
-    put_sum(writer, &first, base)?;
-    put_sum(writer, &second, other)
+    put_number(writer, &first, base)?;
+    put_number(writer, &second, other)
 }

@@ -1,5 +1,5 @@
 //! Repeated runs for machines: JSON Lines.
-ghost use Rattle.std.specs.{List.list_all, Prelude.{◌≡◌, ◌<◌, ◌≤◌, ◌^◌, ◌++◌, ◌∷◌, [], true, false, decimal, flat_map, length, map, IfErr, IfOk, OnOk}};
+ghost use Rattle.std.specs.{List.list_all, Prelude.{◌≡◌, ◌++◌, [], true, false, decimal, flat_map, map, IfErr, IfOk, OnOk}};
 ghost use Rattle.json.specs.Token.{number as a_number};
 ghost use Rattle.span_table.specs.Columns.{column_name};
 ghost use Rattle.span_comparisons.specs.{Appends, TooGreat, Repeats.{json_repeats_fit, json_repeats_of, json_values, json_values_at, key_fits, values_fit, values_tokens}};
@@ -10,7 +10,7 @@ use crate::repeated::repeated;
 use crate::sides::{Side, side_counts};
 use json::Writer;
 use span_event::Text;
-use span_table::{Column, Key, Number, Of, Sum, Table};
+use span_table::{Column, Key, Number, Of, Table};
 use span_table_text::JsonFault;
 use span_table_text::members::{column_names, ended, put_key};
 use std::alloc::{AllocError, Global};
@@ -25,8 +25,6 @@ pub fn json_repeats(
     other: &[Table],
     asked: &Comparing,
 ) -> Result<Vec<u8>, JsonFault>
-    requires base { length base.now ≤ 64 }
-    requires other { length other.now ≤ 64 }
     ensures text { IfOk result (λ text. text.items ≡ json_repeats_of asked.now.unit of
         asked.now.by asked.now.shown.now columns.now base.now other.now) }
     ensures fits { OnOk result (json_repeats_fit asked.now.by asked.now.shown.now base.now
@@ -41,7 +39,7 @@ pub fn json_repeats(
         ..
     } = *asked;
     let found = repeated(alloc, base, other, shown, by)?;
-    let (base_counts, other_counts) = (side_counts(base), side_counts(other));
+    let (base_counts, other_counts) = (side_counts(base)?, side_counts(other)?);
     if !heads_fit(found.same, &base_counts, &other_counts) {
         return Err(JsonFault::TooGreat);
     }
@@ -139,8 +137,8 @@ impl<'a> Lines<'a> {
         &self,
         out: Vec<u8>,
         key: &Key,
-        base: &[Sum],
-        other: &[Sum],
+        base: &[u128],
+        other: &[u128],
     ) -> Result<Vec<u8>, AllocError>
         requires names { self.now.names.now ≡ map column_name self.now.columns.now }
         requires base { values_fit base.now ≡ true }
@@ -158,15 +156,15 @@ impl<'a> Lines<'a> {
     }
 }
 
-fn all_fit(values: &[Sum]) -> bool
+fn all_fit(values: &[u128]) -> bool
     ensures { result ≡ values_fit values.now }
 {
-    values.iter().all(|value| value.as_u64().is_some())
+    values.iter().all(|value| *value < 1 << 64)
 }
 
 // Writes values under a name.
 #[tactic(auto, using(std::proofs::Common::append_assoc))]
-fn put_values(writer: &mut Writer, name: &str, values: &[Sum]) -> Result<(), AllocError>
+fn put_values(writer: &mut Writer, name: &str, values: &[u128]) -> Result<(), AllocError>
     requires { values_fit values.now ≡ true }
     ensures { Appends result writer.old writer.new (values_tokens name.now values.now) }
 {
@@ -176,23 +174,13 @@ fn put_values(writer: &mut Writer, name: &str, values: &[Sum]) -> Result<(), All
     writer.end_array()
 }
 
-fn put_list(writer: &mut Writer, values: &[Sum]) -> Result<(), AllocError>
+fn put_list(writer: &mut Writer, values: &[u128]) -> Result<(), AllocError>
     requires { values_fit values.now ≡ true }
     ensures { Appends result writer.old writer.new
         (map (λ value. a_number (decimal value)) values.now) }
 {
     for value in values {
-        put_value(writer, value)?;
+        writer.u64(*value as u64)?;
     }
     Ok(())
-}
-
-fn put_value(writer: &mut Writer, value: &Sum) -> Result<(), AllocError>
-    requires { value.now < 2 ^ 64 }
-    ensures { Appends result writer.old writer.new (a_number (decimal value.now) ∷ []) }
-{
-    match value.as_u64() {
-        Some(number) => writer.u64(number),
-        None => Ok(()),
-    }
 }

@@ -1,5 +1,5 @@
 //! The text of repeated runs.
-ghost use Rattle.std.specs.Prelude.{◌≡◌, ◌≤◌, ◌++◌, ◌∷◌, [], decimal, flat_map, length, map, string_bytes, OnOk, IfOk};
+ghost use Rattle.std.specs.Prelude.{◌≡◌, ◌++◌, ◌∷◌, [], decimal, flat_map, map, string_bytes, OnOk, IfOk};
 ghost use Rattle.span_comparisons.specs.Repeats.{overlap_line, repeats_of, spread_line, spread_titles, spread_words, wide};
 ghost use Rattle.span_comparisons.specs.First.{first_lines};
 
@@ -9,7 +9,7 @@ use crate::repeated::repeated;
 use crate::sides::side_counts;
 use crate::spreads::{Spread, Spreads};
 use span_report::{first_line, put_unit};
-use span_table::{Column, Sum, Table};
+use span_table::{Column, Table};
 use span_table_text::lines::put_shown;
 use span_table_text::rows::{Cell, put_row, put_titles};
 use std::alloc::{AllocError, Global};
@@ -36,8 +36,6 @@ pub fn repeats(
     other: &[Table],
     asked: &Comparing,
 ) -> Result<Vec<u8>, AllocError>
-    requires base { length base.now ≤ 64 }
-    requires other { length other.now ≤ 64 }
     ensures { IfOk result (λ text. text.items ≡ repeats_of asked.now.unit asked.now.by
         asked.now.most asked.now.shown.now columns.now base.now other.now) }
 {
@@ -49,7 +47,7 @@ pub fn repeats(
     } = *asked;
     let mut out = first_line(alloc)?;
     put_unit(&mut out, unit)?;
-    put_heads(&mut out, &side_counts(base), &side_counts(other), true)?;
+    put_heads(&mut out, &side_counts(base)?, &side_counts(other)?, true)?;
     let found = repeated(alloc, base, other, shown, by)?;
     put_shown(&mut out, shown, found.keys.len() as u128, found.all as u128)?;
     let titles = titles_of(alloc)?;
@@ -102,10 +100,10 @@ fn cells_of(alloc: Global, spreads: &Spreads) -> Result<Vec<Cell>, AllocError>
 {
     let (base, other) = (&spreads.base, &spreads.other);
     let mut cells = Vec::with_capacity(alloc, TITLES.len())?;
-    let apart = difference(alloc, &base.median, &other.median)?;
+    let apart = difference(alloc, base.median, other.median)?;
     cells.push(Cell::new(WIDTH, apart))?;
-    push_sum(alloc, &mut cells, &base.median)?;
-    push_sum(alloc, &mut cells, &other.median)?;
+    push_sum(alloc, &mut cells, base.median)?;
+    push_sum(alloc, &mut cells, other.median)?;
     push_extent(alloc, &mut cells, base)?;
     push_extent(alloc, &mut cells, other)?;
     Ok(cells)
@@ -116,15 +114,15 @@ fn push_extent(alloc: Global, cells: &mut Vec<Cell>, spread: &Spread) -> Result<
     ensures { OnOk result (cells.new.items ≡ cells.old.items
         ++ wide (decimal spread.now.least) ∷ wide (decimal spread.now.greatest) ∷ []) }
 {
-    push_sum(alloc, cells, &spread.least)?;
-    push_sum(alloc, cells, &spread.greatest)?;
+    push_sum(alloc, cells, spread.least)?;
+    push_sum(alloc, cells, spread.greatest)?;
     Ok(())
 }
 
-fn push_sum(alloc: Global, cells: &mut Vec<Cell>, sum: &Sum) -> Result<(), AllocError>
-    ensures { OnOk result (cells.new.items ≡ cells.old.items ++ wide (decimal sum.now) ∷ []) }
+fn push_sum(alloc: Global, cells: &mut Vec<Cell>, sum: u128) -> Result<(), AllocError>
+    ensures { OnOk result (cells.new.items ≡ cells.old.items ++ wide (decimal sum) ∷ []) }
 {
-    cells.push(Cell::new(WIDTH, sum.shown(alloc)?))?;
+    cells.push(Cell::new(WIDTH, format!(in alloc; "{sum}")?))?;
     Ok(())
 }
 

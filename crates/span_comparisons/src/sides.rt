@@ -3,7 +3,7 @@ ghost use Rattle.std.specs.Prelude.{◌≡◌, ◌≤◌, map, length, OnOk, IfO
 ghost use Rattle.span_comparisons.specs.{Repeats.side_counts, Spreads.{spread_of, values_at}};
 
 use crate::spreads::Spread;
-use span_table::{Key, Number, Sum, Table, TableCounts, sums_at};
+use span_table::{Key, Number, Table, TableCounts, sums_at};
 use std::alloc::{AllocError, Global};
 use std::marker::Model;
 
@@ -13,7 +13,7 @@ pub(crate) struct Side<'a> {
     tables: &'a [Table],
     // Where the next key is looked for in each table.
     places: Vec<usize>,
-    values: Vec<Sum>,
+    values: Vec<u128>,
 }
 
 impl<'a> Model for Side<'a> {
@@ -52,7 +52,7 @@ impl<'a> Side<'a> {
     }
 
     /// Those that were found last, in this order until they are spread.
-    pub(crate) fn values(&self) -> &[Sum]
+    pub(crate) fn values(&self) -> &[u128]
         ensures { result.now ≡ self.now.values }
     {
         &self.values
@@ -69,13 +69,12 @@ impl<'a> Side<'a> {
 }
 
 /// The counts of a side's tables added.
-pub(crate) fn side_counts(tables: &[Table]) -> TableCounts
-    requires { length tables.now ≤ 64 }
-    ensures { result ≡ side_counts tables.now }
+pub(crate) fn side_counts(tables: &[Table]) -> Result<TableCounts, AllocError>
+    ensures { IfOk result (λ counts. counts ≡ side_counts tables.now) }
 {
     let mut counts = TableCounts::of_none();
     for table in tables {
-        counts.add(&table.counts());
+        counts = counts.plus(&table.counts())?;
     }
-    counts
+    Ok(counts)
 }

@@ -2,7 +2,7 @@
 ghost use Rattle.std.specs.Prelude.{◌≡◌, ◌≤◌, ◌||◌, get_or, nat_lt};
 ghost use Rattle.span_comparisons.specs.Spreads.{has_same_spread, is_apart, median_gap, spread_of, spread_order};
 
-use span_table::{Key, Sum};
+use span_table::Key;
 use std::cmp::Ordering;
 use std::marker::Model;
 
@@ -10,18 +10,18 @@ use std::marker::Model;
 /// none.
 #[derive(Clone, Copy)]
 pub(crate) struct Spread {
-    pub(crate) median: Sum,
-    pub(crate) least: Sum,
-    pub(crate) greatest: Sum,
+    pub(crate) median: u128,
+    pub(crate) least: u128,
+    pub(crate) greatest: u128,
 }
 
 impl Spread {
     /// That of values, which are put in order.
-    pub(crate) fn of(values: &mut [Sum]) -> Spread
+    pub(crate) fn of(values: &mut [u128]) -> Spread
         ensures value { result ≡ spread_of values.old }
         ensures order { result.least ≤ result.greatest }
     {
-        values.sort_unstable_by(|a, b| a.compare(b));
+        values.sort_unstable();
         let last = values.len().saturating_sub(1);
         Spread {
             median: number_at(values, last / 2),
@@ -34,16 +34,16 @@ impl Spread {
     fn is_below(&self, other: &Spread) -> bool
         ensures { result ≡ nat_lt self.now.greatest other.now.least }
     {
-        self.greatest.is_less(&other.least)
+        self.greatest < other.least
     }
 }
 
-fn number_at(values: &[Sum], place: usize) -> Sum
+fn number_at(values: &[u128], place: usize) -> u128
     ensures { result ≡ get_or values.now place 0 }
 {
     match values.get(place) {
         Some(value) => *value,
-        None => Sum::zero(),
+        None => 0,
     }
 }
 
@@ -73,15 +73,15 @@ impl<'a> Spreads<'a> {
     pub(crate) fn is_same(&self) -> bool
         ensures { result ≡ has_same_spread self.now }
     {
-        self.base.median.equals(&self.other.median)
-            && self.base.least.equals(&self.other.least)
-            && self.base.greatest.equals(&self.other.greatest)
+        self.base.median == self.other.median
+            && self.base.least == self.other.least
+            && self.base.greatest == self.other.greatest
     }
 
-    fn median_gap(&self) -> Sum
+    fn median_gap(&self) -> u128
         ensures { result ≡ median_gap self.now }
     {
-        self.base.median.gap(&self.other.median)
+        self.base.median.abs_diff(self.other.median)
     }
 
     /// Which of two comes first.
@@ -89,6 +89,6 @@ impl<'a> Spreads<'a> {
         ensures { result ≡ spread_order self.now other.now }
     {
         let by_key = self.key.cmp(other.key);
-        other.median_gap().compare(&self.median_gap()).then(by_key)
+        other.median_gap().cmp(&self.median_gap()).then(by_key)
     }
 }

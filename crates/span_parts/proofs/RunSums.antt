@@ -1,6 +1,6 @@
 -- Tables of runs, by all of their columns or some, that are added: all of their rows, or those that are shown.
 use Rattle.std.specs.{List.{cons_option, list_all, list_any}, Prelude.{flat_map, slice_get}}
-use Rattle.std.proofs.{Common.{◌≡◌, ◌≢◌, ℕ, zero, suc, ◌<◌, ◌&&◌, ◌||◌, Bool, true, false, cond, not, List, [], ◌∷◌, All, Contains, filter, get_or, length, map, Option, Some, None, refl, sym, ap, ap₂, subst, ◌∙◌, arith}, lemmas.List.Elements.{All-contains, All-contains_itself, All-head, All-tail}}
+use Rattle.std.proofs.{Common.{◌≡◌, ◌≢◌, ℕ, zero, suc, ◌<◌, ◌&&◌, ◌||◌, Bool, true, false, cond, not, List, [], ◌∷◌, All, Contains, filter, get_or, length, map, Option, Some, None, refl, sym, ap, ap₂, subst, ◌∙◌, arith}, lemmas.List.Elements.{All-contains, All-head, All-tail}}
 use Rattle.span_self_time.proofs.Mapped.{filter-map}
 use Rattle.span_table.proofs.AddedTables.{add_tables-table_of, table_of-picked}
 use Rattle.span_table_text.specs.Shown.{is_wanted, value_has}

@@ -9,7 +9,7 @@ use crate::heads::MOST_COLUMNS;
 use crate::tokens::{after_one, key_after, number_after, text_after};
 use json::Token;
 use span_event::{ArgValue, Text, Unit};
-use span_table::{Column, EntryCounts, Key, Number, Of, Row, Sum, Sums, TableCounts};
+use span_table::{Column, EntryCounts, Key, Number, Of, Row, Sums, TableCounts};
 use std::alloc::{AllocError, Global};
 
 /// What a first line says: what is summed, the unit, the columns, the number of rows and the counts.
@@ -227,7 +227,7 @@ fn put_sums<'t, 'a>(
     };
     let (value, rest) = number_after(tokens, number.name())?;
     let rest = put_sums(numbers, rest, sums)?;
-    sums.put(*number, Sum::of(u128::from(value)));
+    sums.put(*number, u128::from(value));
     Some(rest)
 }
 

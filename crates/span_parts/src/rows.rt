@@ -6,7 +6,7 @@ use crate::guess;
 use crate::room::{LineRoom, is_line};
 use crate::tokens::tokens_of;
 use span_event::{ArgValue, Text};
-use span_table::{Column, Of, Row, Sum, Sums, fits};
+use span_table::{Column, Of, Row, Sums, fits};
 use span_table_text::with_json_row;
 use std::alloc::{AllocError, Global};
 use std::mem::replace;
@@ -76,8 +76,8 @@ fn has_own(of: Of, sums: &Sums) -> bool
     ensures { IsTrue result ↔ HasOwn of sums.now }
 {
     match of {
-        Of::Spans => is_none(&sums.unclosed) && is_none(&sums.points),
-        Of::Async => is_none(&sums.self_time),
+        Of::Spans => sums.unclosed == 0 && sums.points == 0,
+        Of::Async => sums.self_time == 0,
     }
 }
 
@@ -86,17 +86,8 @@ fn has_some(of: Of, sums: &Sums) -> bool
     ensures { IsTrue result ↔ HasSome of sums.now }
 {
     match of {
-        Of::Spans => !is_none(&sums.count),
-        Of::Async => { !(is_none(&sums.count) && is_none(&sums.unclosed) && is_none(&sums.points)) }
-    }
-}
-
-fn is_none(sum: &Sum) -> bool
-    ensures { IsTrue result ↔ sum.now ≡ 0 }
-{
-    match sum.as_u64() {
-        Some(number) => number == 0,
-        None => false,
+        Of::Spans => sums.count != 0,
+        Of::Async => sums.count != 0 || sums.unclosed != 0 || sums.points != 0,
     }
 }
 

@@ -1,6 +1,6 @@
 //! The rows of a part, which are added one after another.
-ghost use Rattle.std.specs.Prelude.{◌≡◌, ◌++◌, ◌∷◌, [], true, map, IfErr, IfOk, IsTrue, OnOk};
-ghost use Rattle.span_parts.specs.{Row as TheRow, picked, with_row, column_name, fit, AreColumns, Bytes, First.{Begins, MayBegin}, Rows.{AllAdded, IsNextRow, IsOfSum, RowFails, RowsFail, comes_after, row_at}, Sum.{HasColumns, IsAdded, SumFails}};
+ghost use Rattle.std.specs.Prelude.{◌≡◌, ◌++◌, ◌∷◌, [], map, IfErr, IfOk, IsTrue, OnOk};
+ghost use Rattle.span_parts.specs.{Row as TheRow, picked, with_row, column_name, AreColumns, Bytes, First.{Begins, MayBegin}, Rows.{AllAdded, IsNextRow, RowFails, RowsFail, comes_after, row_at}, Sum.{HasColumns, IsAdded, SumFails}};
 
 use crate::fault::PartFault;
 use crate::guess::FirstLine;
@@ -142,20 +142,18 @@ fn comes_after(row: &Row, last: &Option<Row>) -> bool
 }
 
 // Adds a row, which has the values at these places of this one's key.
-fn add_row(alloc: Global, sum: &mut TableSum, places: &[usize], row: &Row) -> Result<(), PartFault>
-    requires { fit row.now.sums ≡ true }
-    ensures added { OnOk result
+fn add_row(alloc: Global, sum: &mut TableSum, places: &[usize], row: &Row) -> Result<(), AllocError>
+    ensures { OnOk result
         (sum.new.table ≡ with_row sum.old.table (row_at places.now row.now)) }
-    ensures fault { IfErr result IsOfSum }
 {
     if takes_all(places, row.key.values()) {
-        return Ok(sum.add_row(row)?);
+        return sum.add_row(row);
     }
     let row = Row {
         key: key_at(alloc, places, &row.key)?,
         sums: row.sums,
     };
-    Ok(sum.add_row(&row)?)
+    sum.add_row(&row)
 }
 
 // Whether these are the places of all the values, in their order.

@@ -1,7 +1,7 @@
 -- Where a key stands among what is kept.
 use Rattle.std.specs.{BTreeMap.{insert_entry, is_at}, Cmp.eq_by_cmp_equiv, List.IsDistinct, Map.{keys_of, lookup, values_of}, Option.option_map, Ordering.eq_by_cmp, Prelude.{get_or, unwrap_or}}
-use Rattle.std.proofs.{Common.{◌≡◌, ℕ, ◌<◌, true, [], length, slice_get, position, Option, Some, None, refl, sym, ap, ap₂, subst, ◌∙◌, arith}, lemmas.{List.Quantifiers.position-Some, Option.{none-some, same_Some, slice_get-get_or, slice_get-map, slice_get_past, slice_get_within}}}
-use Rattle.indexmap.specs.IndexMap.{IndexMap, with_value_at}
+use Rattle.std.proofs.{Common.{◌≡◌, ℕ, zero, suc, ◌<◌, true, [], ◌∷◌, length, slice_get, position, Option, Some, None, refl, sym, ap, ap₂, subst, ◌∙◌, arith}, lemmas.{List.Quantifiers.position-Some, Option.{none-some, same_Some, slice_get-get_or, slice_get-map, slice_get_past, slice_get_within}}}
+use Rattle.indexmap.specs.IndexMap.{IndexMap, set_value_at, with_value_at}
 use Rattle.indexmap.proofs.CallerLemmas.{keys-with_value_at, updates-with_value_at}
 use Rattle.span_keyed_tracks.proofs.{InKeyOrder.{found-in_key_order, in_key_order-sorted, in_key_order-written}, KeyChange.insert_entry-found}
 use Rattle.span_table.specs.{AreDistinct, in_key_order, Collected.{IsKeptAs, IsPlaceOf}, KeyLaws.{key_cmp_total, key_cmp-same, key_eq-same}, Keys.{TableKey, key_cmp}, Tables.{SumsByKey, sums_together}, declared.sums.Sums.Sums}
@@ -55,6 +55,12 @@ pub kept-found : (es kept : SumsByKey) (key : TableKey) (found : Option Sums) �
 kept-found es kept key found distinct view is =
     ap (λ (l : SumsByKey). unwrap_or (lookup (is_at (key_cmp key)) l) (sums_together [])) (sym view)
     ∙ ap (λ s. unwrap_or s (sums_together [])) (found-in_key_order key_cmp_total key_cmp-same (λ a b. refl) es key found distinct is)
+
+-- to write what stands at a place changes nothing
+pub set_value_at-same : (es : SumsByKey) (place : ℕ) (value : Sums) → slice_get (values_of es) place ≡ Some value → set_value_at es place value ≡ es
+set_value_at-same [] place value found = refl
+set_value_at-same (e ∷ es) zero value found = ap (λ v. (e.0, v) ∷ es) (sym (same_Some e.1 value found))
+set_value_at-same (e ∷ es) (suc place) value found = ap (λ l. e ∷ l) (set_value_at-same es place value found)
 
 -- what is written at the place of a key
 pub written-at : {S : Type 0} (m : IndexMap TableKey Sums S) (place : ℕ) (key : TableKey) (was now : Sums) → AreDistinct key_cmp m.entries → IsPlaceOf m.entries key place →

@@ -3,7 +3,6 @@ pub mod Alike
 pub mod AsyncRows
 pub mod Busy
 pub mod ByName
-pub mod FewRows
 pub mod Kept
 pub mod KeyPlaces
 pub mod Merged
@@ -12,7 +11,6 @@ pub mod Rows
 pub mod SameTables
 pub mod Searched
 pub mod SomeAsync
-pub mod SumText
 pub mod Summing
 pub mod Tallies
 pub mod Unlisted

@@ -1,9 +1,9 @@
 -- Rows in order that are merged are those of both.
 use Rattle.std.specs.{List.{AllByRecursion, Sorted.IsStrictlySortedBy}, Option.option_to_list, Ordering.{is_eq, match_ordering, ordering_reverse}, declared.cmp.Ordering.{Ordering, TheVariants.{Less, Equal, Greater}}}
-use Rattle.std.proofs.{Common.{◌≡◌, ℕ, ◌+◌, ◌≤◌, Bool, true, false, ◌||◌, cond, List, [], ◌∷◌, ◌++◌, Option, Some, None, map, refl, sym, ap, subst, ◌∙◌, append_assoc, arith}, lemmas.List.{append-nil, Elements.{All-cons, All-head, All-tail}}}
+use Rattle.std.proofs.{Common.{◌≡◌, ℕ, ◌+◌, Bool, true, false, ◌||◌, cond, List, [], ◌∷◌, ◌++◌, Option, Some, None, map, refl, sym, ap, subst, ◌∙◌, append_assoc, arith}, lemmas.List.{append-nil}}
 use Rattle.span_keyed_tracks.proofs.{Keyed.has_key, SameKeys.step_keys}
-use Rattle.span_table.specs.{Keyed, steps_at, Adding.{keyed_row, keyed_rows}, Collected.{IsWithin, RowsWithin, with_sums}, KeyLaws.{key_cmp_total, key_cmp-same}, Keys.{TableKey, key_cmp}, Merging.{heads_cmp, merged, merged_with, with_row_sums}, Tables.{KeyedSums, RowsRise, rows_of, sums_together}, declared.{sums.Sums.Sums, table.Row.Row}}
-use Rattle.span_table.proofs.{AddedTables.rows_of-alike, Alike.{AddUpAlike, AddUpAlike-append, AddUpAlike-refl, AddUpAlike-trans, step_keys-append, sums_at-append}, OwnRows.rows_of-own, Searched.sums_together-one, Summing.{IsWithin-le, sums_together-push, with_sums-within}, Tallies.sums-same}
+use Rattle.span_table.specs.{Keyed, steps_at, Adding.{keyed_row, keyed_rows}, Collected.with_sums, KeyLaws.{key_cmp_total, key_cmp-same}, Keys.{TableKey, key_cmp}, Merging.{heads_cmp, merged, merged_with, with_row_sums}, Tables.{KeyedSums, RowsRise, rows_of, sums_together}, declared.{sums.Sums.Sums, table.Row.Row}}
+use Rattle.span_table.proofs.{AddedTables.rows_of-alike, Alike.{AddUpAlike, AddUpAlike-append, AddUpAlike-refl, AddUpAlike-trans, step_keys-append, sums_at-append}, OwnRows.rows_of-own, Searched.sums_together-one, Summing.sums_together-push, Tallies.sums-same}
 
 merged-nil : (rows : List Row) → merged rows [] ≡ rows
 merged-nil [] = refl
@@ -35,29 +35,6 @@ module _ (Holds : List Row → List Row → List Row → Type 0)
   holds-merged : (rows more : List Row) → Holds rows more (merged rows more)
   holds-merged [] more = none more
   holds-merged (row ∷ rows) more = holds-with row rows (holds-merged rows) more
-
--- what is within some number is within a greater one
-RowsWithin-le : (m n : ℕ) (rows : List Row) → m ≤ n → RowsWithin m rows → RowsWithin n rows
-RowsWithin-le m n rows low within = λ k d at. IsWithin-le m n _ low (within k d at)
-
-pub RowsWithin-rest : (n : ℕ) (first : Option Row) (rows : List Row) → RowsWithin n (option_to_list first ++ rows) → RowsWithin n rows
-RowsWithin-rest n None rows within = within
-RowsWithin-rest n (Some row) rows within = All-tail (λ (row : Row). IsWithin n row.sums) row rows within
-
--- no row has more than both together may
-pub RowsWithin-merged : (m n : ℕ) (rows more : List Row) → RowsWithin m rows → RowsWithin n more → RowsWithin (m + n) (merged rows more)
-RowsWithin-merged m n = holds-merged (λ rows more all. RowsWithin m rows → RowsWithin n more → RowsWithin (m + n) all)
-    (λ more mine its. RowsWithin-le n (m + n) more (omega arith) its)
-    (λ row rows mine its. RowsWithin-le m (m + n) (row ∷ rows) (omega arith) mine)
-    (λ row rows other more all is rest mine its.
-    All-cons (Within (m + n)) row all (IsWithin-le m (m + n) row.sums (omega arith) (All-head (Within m) row rows mine)) (rest (All-tail (Within m) row rows mine) its))
-    (λ row rows other more all is rest mine its.
-    All-cons (Within (m + n)) (with_row_sums row other) all (with_sums-within m n row.sums other.sums (All-head (Within m) row rows mine) (All-head (Within n) other more its)) (rest (All-tail (Within m) row rows mine) (All-tail (Within n) other more its)))
-    (λ row rows other more all is rest mine its.
-    All-cons (Within (m + n)) other all (IsWithin-le n (m + n) other.sums (omega arith) (All-head (Within n) other more its)) (rest mine (All-tail (Within n) other more its)))
-  where
-    Within : ℕ → Row → Type 0
-    Within most row = IsWithin most row.sums
 
 -- all of these have greater keys
 abbrev Above : TableKey → List Row → Type 0

@@ -1,7 +1,7 @@
 -- In a legal journal each asynchronous key has a closed span, one that is open, or a point.
 use Rattle.std.specs.{Ordering.is_eq, Prelude.option_to_list}
 use Rattle.std.proofs.{Common.{◌≡◌, ℕ, ◌+◌, ◌<◌, ℤ, Bool, true, false, cond, List, [], ◌∷◌, ◌++◌, All, length, map, Option, Some, None, refl, sym, ap, subst, ◌∙◌, arith, append-nil, length-append, true≢false}, lemmas.List.Elements.{All-append, All-cons, All-map, All-nil, All-weaker}}
-use Rattle.span_keyed_tracks.specs.{Async.{AsyncEvent, AsyncSpans, AsyncStep, async_cmp, async_matched, async_row, async_spans}, Keyed.{entry_of, keys_in, steps_at}, Matching.{closes, closes_all, open_of, opener, opens, other}, declared.{async_track.AsyncRow.AsyncRow, keys.AsyncKey.AsyncKey}}
+use Rattle.span_keyed_tracks.specs.{Async.{AsyncEvent, AsyncSpans, AsyncStep, async_cmp, async_matched, async_row, async_spans}, Keyed.{entry_of, keys_in, steps_at}, Matching.{closes, closes_all, open_of, opener, opens, other}, declared.{async_track.AsyncRow.AsyncRow}}
 use Rattle.span_keyed_tracks.proofs.{Async.{async_spans-closes, async_spans-opens, async_spans-other}, Keyed.{same_from_is_eq, steps_at-other, steps_at-own}, Matching.Open.opener-open_of, Orders.{async_cmp-same, async_cmp-total}, SameKeys.All-ascending}
 use Rattle.span_journal.specs.{Bytes, Good, Bad, Other, any_name, distance, Answers.{act_answer, answer_to, answered, async_answer, async_step_answer, told_answer}, Journal.{Act, a_seal, accepted, accepted_by, an_event, next_accepted, placed}, Kind.is_accepting, Legal.{IsLegal, calls_of, journal_after, next_entry}, Rows.async_rows, Told.{Told, async_events, suits_end, to_async, to_async_at, to_counter, to_flow, to_meta, to_thread, told}, declared.entry.{Answer.TheVariants.AsyncClosed, Entry.Entry, Op.{Op, TheVariants.{Ask, One, Seal}}}}
 use Rattle.span_journal.proofs.LegalJournals.{legal-sequential}

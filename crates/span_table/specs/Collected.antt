@@ -1,6 +1,6 @@
 -- How the sums of a table are collected: row by row of a ledger's names or asynchronous keys, or span by span.
-use Rattle.std.specs.{Map.{lookup, values_of}, Ordering.eq_by_cmp, Prelude.{◌≡◌, ℕ, ◌+◌, ◌≤◌, List, [], ◌++◌, All, map, slice_get, Option, Some, None}}
-use Rattle.span_table.specs.{Keyed, SpanRow, thread_of_span, span_rows, Columns.{Run, value_at}, Keys.{TableKey, key_cmp}, Tables.{KeyedSums, SumsByKey, summed}, declared.{column.Column.Column, sums.Sums.Sums, table.Row.Row}}
+use Rattle.std.specs.{Map.lookup, Ordering.eq_by_cmp, Prelude.{◌≡◌, ℕ, ◌+◌, List, [], ◌++◌, map, slice_get, Option, Some, None}}
+use Rattle.span_table.specs.{Keyed, SpanRow, thread_of_span, span_rows, Columns.{Run, value_at}, Keys.{TableKey, key_cmp}, Tables.{KeyedSums, SumsByKey, summed}, declared.{column.Column.Column, sums.Sums.Sums}}
 
 -- the sums of a row
 abbrev pub sums_of_row : SpanRow → Sums
@@ -16,26 +16,9 @@ with_sums a b = record {
   points = a.points + b.points;
 }
 
--- none is greater than this
-pub record IsWithin (most : ℕ) (sums : Sums) : Type 0 where
-  pub count : sums.count ≤ most
-  pub total : sums.total ≤ most
-  pub self_time : sums.self_time ≤ most
-  pub unclosed : sums.unclosed ≤ most
-  pub points : sums.points ≤ most
-
--- the sums of no key are greater than this
-abbrev pub AllWithin : ℕ → SumsByKey → Type 0
-AllWithin most kept = All (IsWithin most) (values_of kept)
-
--- those of no row are
-abbrev pub RowsWithin : ℕ → List Row → Type 0
-RowsWithin most rows = All (λ (row : Row). IsWithin most row.sums) rows
-
--- what is kept of some sums becomes what is kept of them and more, and those of no key grow by more than this
-pub record Takes (most : ℕ) (old new : SumsByKey) (more : KeyedSums) : Type 0 where
+-- what is kept of some sums becomes what is kept of them and more
+pub record Takes (old new : SumsByKey) (more : KeyedSums) : Type 0 where
   pub sums : (sums : KeyedSums) → old ≡ summed sums → new ≡ summed (sums ++ more)
-  pub grows : (own : ℕ) → AllWithin own old → AllWithin (own + most) new
 
 -- a row of a thread's names, under the key that its spans have
 abbrev pub keyed_span_row : List Column → Run → SpanRow → Keyed TableKey Sums

@@ -10,7 +10,6 @@ pub mod Laws
 pub mod Merging
 pub mod Numbers
 pub mod RowSearch
-pub mod SumLaws
 pub mod Sums
 pub mod Tables
 pub use Rattle.span_event.specs.{Args.{Arguments, value_of}, Orders.{thread_cmp, value_cmp}, Text.{Bytes, same_text, text_cmp}, Thread.thread_of, Time.distance, ValueLaws.value_cmp_total, declared.{args.ArgValue.{ArgValue, TheVariants.{Flag, Nil, Other, Whole, Words}}, event.Phase.{Phase, TheVariants.{AsyncBegin, AsyncEnd, AsyncPoint, Complete, Counter, FlowEnd, FlowStart, FlowStep, Instant, Meta, SpanBegin, SpanEnd}}, thread.Thread.Thread}}

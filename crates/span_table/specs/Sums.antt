@@ -1,10 +1,6 @@
--- How far two numbers of rows lie apart, which sums are equal, and which have 64 bits.
-use Rattle.std.specs.Prelude.{ℕ, ◌+◌, ◌-◌, ◌==◌, ◌&&◌, Bool, ◌^◌, nat_lt}
+-- Which sums are equal, and which have 64 bits.
+use Rattle.std.specs.Prelude.{◌==◌, ◌&&◌, Bool, ◌^◌, nat_lt}
 use Rattle.span_table.specs.declared.sums.Sums.{Sums}
-
--- how far two numbers lie apart
-abbrev pub gap : ℕ → ℕ → ℕ
-gap m n = (m - n) + (n - m)
 
 -- all numbers are equal
 abbrev pub same_sums : Sums → Sums → Bool

@@ -1,6 +1,6 @@
 //! Adds the sums of a run: from the rows of names or of asynchronous keys, or span by span where a column is an argument.
-ghost use Rattle.std.specs.{List.list_any, Prelude.{◌≡◌, ◌^◌, ◌∷◌, [], map, IfOk, OnOk}};
-ghost use Rattle.span_table.specs.{distance, timed_spans, Collected.{AllWithin, Takes, keyed_span_row, row_sums}, Columns.{async_value_at, is_argument, value_at}, Tables.{async_sums, keyed_async, keyed_span, run_sums, span_sums, thread_sums}};
+ghost use Rattle.std.specs.{List.list_any, Prelude.{◌≡◌, ◌∷◌, [], map, IfOk, OnOk}};
+ghost use Rattle.span_table.specs.{distance, timed_spans, Collected.{Takes, keyed_span_row, row_sums}, Columns.{async_value_at, is_argument, value_at}, Tables.{async_sums, keyed_async, keyed_span, run_sums, span_sums, thread_sums}};
 
 use crate::column::Column;
 use crate::groups::Groups;
@@ -25,8 +25,7 @@ pub(crate) struct RunColumns<'r, 'a> {
 impl<'r, 'a> RunColumns<'r, 'a> {
     /// Adds the sums of the run.
     pub(crate) fn add_to(&self, groups: &mut Groups, of: Of) -> Result<(), AllocError>
-        requires { AllWithin (2 ^ 198) groups.old }
-        ensures { OnOk result (Takes (2 ^ 160) groups.old groups.new
+        ensures { OnOk result (Takes groups.old groups.new
             (run_sums of self.now.columns.now self.now.run.now)) }
     {
         match of {
@@ -37,8 +36,7 @@ impl<'r, 'a> RunColumns<'r, 'a> {
 
     // The sums of closed spans.
     fn add_closed(&self, groups: &mut Groups) -> Result<(), AllocError>
-        requires { AllWithin (2 ^ 198) groups.old }
-        ensures { OnOk result (Takes (2 ^ 160) groups.old groups.new
+        ensures { OnOk result (Takes groups.old groups.new
             (span_sums self.now.columns.now self.now.run.now)) }
     {
         if has_argument(self.columns) {
@@ -49,12 +47,10 @@ impl<'r, 'a> RunColumns<'r, 'a> {
 
     // The sums of the rows of names, by columns of which none is an argument.
     fn add_rows(&self, groups: &mut Groups) -> Result<(), AllocError>
-        requires { AllWithin (2 ^ 198) groups.old }
-        ensures { OnOk result (Takes (2 ^ 160) groups.old groups.new
+        ensures { OnOk result (Takes groups.old groups.new
             (row_sums self.now.columns.now self.now.run.now)) }
     {
         let run = self.run;
-        run.entries();
         let rows = run.ledger.span_rows(self.alloc)?;
         for row in &rows {
             self.add_row(groups, row)?;
@@ -63,8 +59,7 @@ impl<'r, 'a> RunColumns<'r, 'a> {
     }
 
     fn add_row(&self, groups: &mut Groups, row: &SpanRow) -> Result<(), AllocError>
-        requires { AllWithin (2 ^ 200) groups.old }
-        ensures { OnOk result (Takes (2 ^ 128) groups.old groups.new
+        ensures { OnOk result (Takes groups.old groups.new
             (keyed_span_row self.now.columns.now self.now.run.now row.now ∷ [])) }
     {
         let thread = Thread {
@@ -77,12 +72,10 @@ impl<'r, 'a> RunColumns<'r, 'a> {
 
     // The sums of the rows of asynchronous keys.
     fn add_async_rows(&self, groups: &mut Groups) -> Result<(), AllocError>
-        requires { AllWithin (2 ^ 198) groups.old }
-        ensures { OnOk result (Takes (2 ^ 160) groups.old groups.new
+        ensures { OnOk result (Takes groups.old groups.new
             (async_sums self.now.columns.now self.now.run.now)) }
     {
         let run = self.run;
-        run.entries();
         let rows = run.ledger.async_rows(self.alloc)?;
         for row in &rows {
             self.add_async_row(groups, row)?;
@@ -91,8 +84,7 @@ impl<'r, 'a> RunColumns<'r, 'a> {
     }
 
     fn add_async_row(&self, groups: &mut Groups, row: &AsyncRow) -> Result<(), AllocError>
-        requires { AllWithin (2 ^ 200) groups.old }
-        ensures { OnOk result (Takes (2 ^ 128) groups.old groups.new
+        ensures { OnOk result (Takes groups.old groups.new
             (keyed_async self.now.columns.now self.now.run.now row.now ∷ [])) }
     {
         let key = self.async_key_of(&row.key)?;
@@ -101,12 +93,10 @@ impl<'r, 'a> RunColumns<'r, 'a> {
 
     // The sums of closed spans, one by one.
     fn add_spans(&self, groups: &mut Groups) -> Result<(), AllocError>
-        requires { AllWithin (2 ^ 198) groups.old }
-        ensures { OnOk result (Takes (2 ^ 160) groups.old groups.new
+        ensures { OnOk result (Takes groups.old groups.new
             (span_sums self.now.columns.now self.now.run.now)) }
     {
         let run = self.run;
-        run.entries();
         let threads = run.ledger.threads(self.alloc)?;
         for row in &threads {
             let thread = Thread {
@@ -119,8 +109,7 @@ impl<'r, 'a> RunColumns<'r, 'a> {
     }
 
     fn add_thread(&self, groups: &mut Groups, thread: Thread) -> Result<(), AllocError>
-        requires { AllWithin (2 ^ 199) groups.old }
-        ensures { OnOk result (Takes (2 ^ 128) groups.old groups.new
+        ensures { OnOk result (Takes groups.old groups.new
             (thread_sums self.now.columns.now self.now.run.now thread)) }
     {
         let spans = timed_spans(self.alloc, self.run, thread)?;
@@ -136,8 +125,7 @@ impl<'r, 'a> RunColumns<'r, 'a> {
         thread: Thread,
         timed: &TimedSpan,
     ) -> Result<(), AllocError>
-        requires { AllWithin (2 ^ 200) groups.old }
-        ensures { OnOk result (Takes (2 ^ 64) groups.old groups.new
+        ensures { OnOk result (Takes groups.old groups.new
             (keyed_span self.now.columns.now self.now.run.now thread timed.now ∷ [])) }
     {
         let span = timed.span;

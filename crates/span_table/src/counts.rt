@@ -1,9 +1,11 @@
-//! What a table counts beside its spans. The counts have no bound of their own: they are those of fewer than 2^32 runs.
-ghost use Rattle.std.specs.Prelude.{◌≡◌, ◌^◌, ◌∷◌, [], nat_lt};
-ghost use Rattle.span_table.specs.{Counts.{AreCountsWithin, AreEntryCountsWithin, counts_fit, entry_counts_fit}, Tables.{counts_of, counts_together, entry_counts_together}};
+//! What a table counts beside its spans.
+ghost use Rattle.std.specs.Prelude.{◌≡◌, ◌∷◌, [], IfOk};
+ghost use Rattle.span_table.specs.{Counts.{counts_fit, entry_counts_fit}, Tables.{counts_of, counts_together, entry_counts_together}};
 
 use crate::run::LedgerRun;
+use crate::wide::{is_narrow, plus};
 use span_journal::CountRow;
+use std::alloc::AllocError;
 use std::marker::Model;
 
 /// How many entries of each kind the journals of runs hold.
@@ -33,8 +35,7 @@ impl Model for EntryCounts {
 
 impl EntryCounts {
     fn of(row: CountRow) -> EntryCounts
-        ensures value { result ≡ row }
-        ensures bound { AreEntryCountsWithin (2 ^ 64) result }
+        ensures { result ≡ row }
     {
         EntryCounts {
             accepted: u128::from(row.accepted),
@@ -45,16 +46,16 @@ impl EntryCounts {
         }
     }
 
-    fn add(&mut self, more: &EntryCounts)
-        requires mine { AreEntryCountsWithin (2 ^ 120) self.old }
-        requires its { AreEntryCountsWithin (2 ^ 120) more.now }
-        ensures { self.new ≡ entry_counts_together (self.old ∷ more.now ∷ []) }
+    fn plus(&self, more: &EntryCounts) -> Result<EntryCounts, AllocError>
+        ensures { IfOk result (λ sum. sum ≡ entry_counts_together (self.now ∷ more.now ∷ [])) }
     {
-        self.accepted += more.accepted;
-        self.refused += more.refused;
-        self.skipped += more.skipped;
-        self.queries += more.queries;
-        self.seals += more.seals;
+        Ok(EntryCounts {
+            accepted: plus(self.accepted, more.accepted)?,
+            refused: plus(self.refused, more.refused)?,
+            skipped: plus(self.skipped, more.skipped)?,
+            queries: plus(self.queries, more.queries)?,
+            seals: plus(self.seals, more.seals)?,
+        })
     }
 }
 
@@ -88,8 +89,7 @@ impl TableCounts {
     }
 
     pub(crate) fn of(run: &LedgerRun) -> TableCounts
-        ensures value { result ≡ counts_of run.now }
-        ensures bound { AreCountsWithin (2 ^ 64) result }
+        ensures { result ≡ counts_of run.now }
     {
         TableCounts {
             runs: 1,
@@ -99,16 +99,16 @@ impl TableCounts {
         }
     }
 
-    /// Adds what another table counts.
-    pub fn add(&mut self, more: &TableCounts)
-        requires mine { AreCountsWithin (2 ^ 120) self.old }
-        requires its { AreCountsWithin (2 ^ 120) more.now }
-        ensures { self.new ≡ counts_together (self.old ∷ more.now ∷ []) }
+    /// With what another table counts.
+    pub fn plus(&self, more: &TableCounts) -> Result<TableCounts, AllocError>
+        ensures { IfOk result (λ sum. sum ≡ counts_together (self.now ∷ more.now ∷ [])) }
     {
-        self.runs += more.runs;
-        self.files += more.files;
-        self.unread += more.unread;
-        self.entries.add(&more.entries);
+        Ok(TableCounts {
+            runs: plus(self.runs, more.runs)?,
+            files: plus(self.files, more.files)?,
+            unread: plus(self.unread, more.unread)?,
+            entries: self.entries.plus(&more.entries)?,
+        })
     }
 }
 
@@ -130,11 +130,4 @@ fn entry_counts_fit(counts: &EntryCounts) -> bool
         && is_narrow(counts.skipped)
         && is_narrow(counts.queries)
         && is_narrow(counts.seals)
-}
-
-// Whether the number has 64 bits.
-fn is_narrow(number: u128) -> bool
-    ensures { result ≡ nat_lt number (2 ^ 64) }
-{
-    number < 1 << 64
 }

@@ -1,6 +1,6 @@
 //! The sums of each key.
-ghost use Rattle.std.specs.{BTreeMap.is_at, Map.lookup, Prelude.{◌≡◌, ◌^◌, ◌∷◌, [], ℕ, false, map, None, IfOk, IsTrue, OnErr, OnOk}};
-ghost use Rattle.span_table.specs.{Collected.{AllWithin, IsPlaceOf, IsWithin, RowsWithin, Takes}, Keys.key_cmp, Tables.{RowsRise, row_of}};
+ghost use Rattle.std.specs.{BTreeMap.is_at, Map.lookup, Prelude.{◌≡◌, ◌∷◌, [], false, map, None, IfOk, IsTrue, OnErr, OnOk}};
+ghost use Rattle.span_table.specs.{Collected.{IsPlaceOf, Takes}, Keys.key_cmp, Tables.{RowsRise, row_of}};
 
 use crate::key::Key;
 use crate::sums::Sums;
@@ -54,13 +54,11 @@ impl Groups {
 
     /// Adds sums to those of a key.
     pub(crate) fn add(&mut self, key: Key, more: Sums) -> Result<(), AllocError>
-        requires all { AllWithin (2 ^ 200) self.old }
-        requires more { IsWithin (2 ^ 200) more }
-        ensures takes { OnOk result ((n : ℕ) → IsWithin n more
-            → Takes n self.old self.new (record { key = key; step = more } ∷ [])) }
+        ensures takes { OnOk result
+            (Takes self.old self.new (record { key = key; step = more } ∷ [])) }
         ensures err { OnErr result (self.new ≡ self.old) }
     {
-        if self.add_known(&key, &more) {
+        if self.add_known(&key, &more)? {
             return Ok(());
         }
         self.insert(key, more)
@@ -68,44 +66,41 @@ impl Groups {
 
     /// Adds sums to those of a key, of which a copy is kept if it is new.
     pub(crate) fn add_copy(&mut self, key: &Key, more: &Sums) -> Result<(), AllocError>
-        requires all { AllWithin (2 ^ 200) self.old }
-        requires more { IsWithin (2 ^ 200) more.now }
-        ensures takes { OnOk result ((n : ℕ) → IsWithin n more.now
-            → Takes n self.old self.new (record { key = key.now; step = more.now } ∷ [])) }
+        ensures takes { OnOk result
+            (Takes self.old self.new (record { key = key.now; step = more.now } ∷ [])) }
         ensures err { OnErr result (self.new ≡ self.old) }
     {
-        if self.add_known(key, more) {
+        if self.add_known(key, more)? {
             return Ok(());
         }
         let key = key.try_clone(*self.kept.allocator())?;
         self.insert(key, *more)
     }
 
-    // Adds sums to those of a key, if there are any.
-    fn add_known(&mut self, key: &Key, more: &Sums) -> bool
-        requires all { AllWithin (2 ^ 200) self.old }
-        requires more { IsWithin (2 ^ 200) more.now }
-        ensures takes { IsTrue result → (n : ℕ) → IsWithin n more.now
-            → Takes n self.old self.new (record { key = key.now; step = more.now } ∷ []) }
-        ensures same { result ≡ false → self.new ≡ self.old }
-        ensures new { result ≡ false → lookup (is_at (key_cmp key.now)) self.new ≡ None }
+    // Adds sums to those of a key, and says whether there were any.
+    fn add_known(&mut self, key: &Key, more: &Sums) -> Result<bool, AllocError>
+        ensures takes { IfOk result (λ known. IsTrue known
+            → Takes self.old self.new (record { key = key.now; step = more.now } ∷ [])) }
+        ensures same { IfOk result (λ known. known ≡ false → self.new ≡ self.old) }
+        ensures new { IfOk result (λ known. known ≡ false
+            → lookup (is_at (key_cmp key.now)) self.new ≡ None) }
+        ensures err { OnErr result (self.new ≡ self.old) }
     {
         let at = place_of(&self.kept, self.next, key);
         let Some(sums) = self.kept.get_index_mut(at) else {
-            return false;
+            return Ok(false);
         };
-        sums.add(more);
+        *sums = sums.plus(more)?;
         self.next = place_behind(self.last, at);
         self.last = at;
-        true
+        Ok(true)
     }
 
     // Keeps the sums of a new key.
     fn insert(&mut self, key: Key, more: Sums) -> Result<(), AllocError>
         requires new { lookup (is_at (key_cmp key)) self.old ≡ None }
-        requires all { AllWithin (2 ^ 200) self.old }
-        ensures takes { OnOk result ((n : ℕ) → IsWithin n more
-            → Takes n self.old self.new (record { key = key; step = more } ∷ [])) }
+        ensures takes { OnOk result
+            (Takes self.old self.new (record { key = key; step = more } ∷ [])) }
         ensures err { OnErr result (self.new ≡ self.old) }
     {
         self.kept.insert(key, more)?;
@@ -116,7 +111,6 @@ impl Groups {
     pub(crate) fn into_rows(self) -> Result<Vec<Row>, AllocError>
         ensures rows { IfOk result (λ rows. rows.items ≡ map row_of self) }
         ensures rise { IfOk result (λ rows. RowsRise rows.items) }
-        ensures bound { IfOk result (λ rows. (n : ℕ) → AllWithin n self → RowsWithin n rows.items) }
     {
         let mut rows = rows_of(self.kept)?;
         rows.sort_unstable_by(|a, b| a.key.cmp(&b.key));

@@ -1,7 +1,7 @@
 //! Rows in order are merged with others.
-ghost use Rattle.std.specs.Prelude.{◌≡◌, ◌+◌, ◌<◌, ◌^◌, ◌++◌, [], ℕ, length, None, IfOk, IsSome};
+ghost use Rattle.std.specs.Prelude.{◌≡◌, ◌+◌, ◌<◌, ◌++◌, [], length, None, IfOk, IsSome};
 ghost use Rattle.std.specs.Option.{option_to_list};
-ghost use Rattle.span_table.specs.{Adding.keyed_rows, Collected.RowsWithin, Merging.{heads_cmp, merged}, Tables.{RowsRise, rows_of}};
+ghost use Rattle.span_table.specs.{Adding.keyed_rows, Merging.{heads_cmp, merged}, Tables.{RowsRise, rows_of}};
 
 use crate::table::Row;
 use std::alloc::AllocError;
@@ -12,13 +12,9 @@ use std::collections::VecDeque;
 pub(crate) fn merged(rows: Vec<Row>, more: Vec<Row>) -> Result<Vec<Row>, AllocError>
     requires rise { RowsRise rows.items }
     requires others { RowsRise more.items }
-    requires mine { RowsWithin (2 ^ 198) rows.items }
-    requires its { RowsWithin (2 ^ 198) more.items }
     ensures rows { IfOk result (λ all.
         all.items ≡ rows_of (keyed_rows rows.items ++ keyed_rows more.items)) }
     ensures rise { IfOk result (λ all. RowsRise all.items) }
-    ensures bound { IfOk result (λ all. (m n : ℕ) → RowsWithin m rows.items
-        → RowsWithin n more.items → RowsWithin (m + n) all.items) }
 {
     if more.is_empty() {
         return Ok(rows);
@@ -29,31 +25,30 @@ pub(crate) fn merged(rows: Vec<Row>, more: Vec<Row>) -> Result<Vec<Row>, AllocEr
     let room = rows.len().saturating_add(more.len());
     let mut all = Vec::with_capacity(*rows.allocator(), room)?;
     let (mut left, mut right) = (VecDeque::from(rows), VecDeque::from(more));
-    while let Some(row) = next_row(&mut left, &mut right) {
+    while let Some(row) = next_row(&mut left, &mut right)? {
         all.push(row)?;
     }
     Ok(all)
 }
 
 // Takes the first row of two lists in order: the lesser one, or both added.
-fn next_row(left: &mut VecDeque<Row>, right: &mut VecDeque<Row>) -> Option<Row>
-    requires mine { RowsWithin (2 ^ 198) left.old.items }
-    requires its { RowsWithin (2 ^ 198) right.old.items }
-    ensures rows { merged left.old.items right.old.items
-        ≡ option_to_list result ++ merged left.new.items right.new.items }
-    ensures all { result ≡ None → merged left.old.items right.old.items ≡ [] }
-    ensures mine { RowsWithin (2 ^ 198) left.new.items }
-    ensures its { RowsWithin (2 ^ 198) right.new.items }
-    ensures fewer { IsSome result → length left.new.items + length right.new.items
-        < length left.old.items + length right.old.items }
+fn next_row(left: &mut VecDeque<Row>, right: &mut VecDeque<Row>) -> Result<Option<Row>, AllocError>
+    ensures rows { IfOk result (λ first. merged left.old.items right.old.items
+        ≡ option_to_list first ++ merged left.new.items right.new.items) }
+    ensures all { IfOk result (λ first. first ≡ None → merged left.old.items right.old.items ≡ []) }
+    ensures fewer { IfOk result (λ first. IsSome first
+        → length left.new.items + length right.new.items
+        < length left.old.items + length right.old.items) }
 {
     match heads_order(left, right) {
-        Ordering::Less => left.pop_front(),
-        Ordering::Greater => right.pop_front(),
+        Ordering::Less => Ok(left.pop_front()),
+        Ordering::Greater => Ok(right.pop_front()),
         Ordering::Equal => {
-            let mut row = left.pop_front()?;
-            row.sums.add(&right.pop_front()?.sums);
-            Some(row)
+            let (Some(mut row), Some(other)) = (left.pop_front(), right.pop_front()) else {
+                return Ok(None);
+            };
+            row.sums = row.sums.plus(&other.sums)?;
+            Ok(Some(row))
         }
     }
 }

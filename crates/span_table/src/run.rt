@@ -1,6 +1,4 @@
 //! A run: what one ledger holds once it is closed, and what is known of its files.
-ghost use Rattle.std.specs.Prelude.{◌≡◌, ◌<◌, ◌^◌, length};
-
 use span_event::Text;
 use span_ledger::Ledger;
 use std::marker::Model;
@@ -21,14 +19,4 @@ impl<'a> Model for LedgerRun<'a> {
     ghost Value = { Run };
 
     ghost view = { λ r. record { journal = r.ledger.now.journal; files = r.files; unread = r.unread; file = option_copied r.file } };
-}
-
-impl<'a> LedgerRun<'a> {
-    /// How many entries the journal has.
-    pub(crate) fn entries(&self) -> u32
-        ensures entries { result ≡ length self.now.journal }
-        ensures few { length self.now.journal < 2 ^ 32 }
-    {
-        self.ledger.len()
-    }
 }

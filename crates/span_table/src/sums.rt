@@ -1,21 +1,22 @@
 //! What spans come to together.
-ghost use Rattle.std.specs.Prelude.{◌≡◌, ◌+◌, ◌≤◌, ◌^◌, ℕ, []};
-ghost use Rattle.span_table.specs.{Collected.{IsWithin, sums_of_row, with_sums}, Numbers.{number_by, with_number}, Sums.{fit, same_sums}, Tables.{sums_of_async, sums_together}};
+ghost use Rattle.std.specs.Prelude.{◌≡◌, [], IfOk};
+ghost use Rattle.span_table.specs.{Collected.{sums_of_row, with_sums}, Numbers.{number_by, with_number}, Sums.{fit, same_sums}, Tables.{sums_of_async, sums_together}};
 
 use crate::number::Number;
-use crate::sum::Sum;
+use crate::wide::{is_narrow, plus};
 use span_journal::SpanRow;
 use span_keyed_tracks::AsyncRow;
+use std::alloc::AllocError;
 
 /// How many closed spans, their lengths, and their self times together; and of asynchronous spans how many are open, and how many
 /// points there are. These have no self time. Times are ticks: microseconds or nanoseconds, as the runs count.
 #[derive(Clone, Copy)]
 pub struct Sums {
-    pub count: Sum,
-    pub total: Sum,
-    pub self_time: Sum,
-    pub unclosed: Sum,
-    pub points: Sum,
+    pub count: u128,
+    pub total: u128,
+    pub self_time: u128,
+    pub unclosed: u128,
+    pub points: u128,
 }
 
 impl Sums {
@@ -23,77 +24,73 @@ impl Sums {
         ensures { result ≡ sums_together [] }
     {
         Sums {
-            count: Sum::zero(),
-            total: Sum::zero(),
-            self_time: Sum::zero(),
-            unclosed: Sum::zero(),
-            points: Sum::zero(),
+            count: 0,
+            total: 0,
+            self_time: 0,
+            unclosed: 0,
+            points: 0,
         }
     }
 
     pub(crate) fn of_row(row: &SpanRow) -> Sums
-        ensures value { result ≡ sums_of_row row.now }
-        ensures bound { IsWithin (2 ^ 128) result }
+        ensures { result ≡ sums_of_row row.now }
     {
         Sums {
-            count: Sum::of(u128::from(row.count)),
-            total: Sum::of(row.total),
-            self_time: Sum::of(u128::from(row.self_time)),
-            unclosed: Sum::zero(),
-            points: Sum::zero(),
+            count: u128::from(row.count),
+            total: row.total,
+            self_time: u128::from(row.self_time),
+            unclosed: 0,
+            points: 0,
         }
     }
 
     pub(crate) fn of_async(row: &AsyncRow) -> Sums
-        ensures value { result ≡ sums_of_async row.now }
-        ensures bound { IsWithin (2 ^ 128) result }
+        ensures { result ≡ sums_of_async row.now }
     {
         let totals = &row.totals;
         Sums {
-            count: Sum::of(u128::from(totals.closed)),
-            total: Sum::of(totals.total),
-            self_time: Sum::zero(),
-            unclosed: Sum::of(u128::from(totals.unclosed)),
-            points: Sum::of(u128::from(totals.points)),
+            count: u128::from(totals.closed),
+            total: totals.total,
+            self_time: 0,
+            unclosed: u128::from(totals.unclosed),
+            points: u128::from(totals.points),
         }
     }
 
     /// Of one span of this length and self time.
     pub(crate) fn of_span(length: u64, self_time: u64) -> Sums
-        ensures value { result ≡ record {
+        ensures { result ≡ record {
           count = 1;
           total = length;
           self_time = self_time;
           unclosed = 0;
           points = 0;
         } }
-        ensures bound { IsWithin (2 ^ 64) result }
     {
         Sums {
-            count: Sum::of(1),
-            total: Sum::of(u128::from(length)),
-            self_time: Sum::of(u128::from(self_time)),
-            unclosed: Sum::zero(),
-            points: Sum::zero(),
+            count: 1,
+            total: u128::from(length),
+            self_time: u128::from(self_time),
+            unclosed: 0,
+            points: 0,
         }
     }
 
-    pub(crate) fn add(&mut self, more: &Sums)
-        requires mine { IsWithin (2 ^ 200) self.old }
-        requires its { IsWithin (2 ^ 200) more.now }
-        ensures value { self.new ≡ with_sums self.old more.now }
-        ensures bound { (m n : ℕ) → IsWithin m self.old → IsWithin n more.now
-            → IsWithin (m + n) self.new }
+    /// These sums and others.
+    pub(crate) fn plus(&self, more: &Sums) -> Result<Sums, AllocError>
+        ensures { IfOk result (λ sums. sums ≡ with_sums self.now more.now) }
     {
-        self.count.add(&more.count);
-        self.total.add(&more.total);
-        self.self_time.add(&more.self_time);
-        self.unclosed.add(&more.unclosed);
-        self.points.add(&more.points);
+        Ok(Sums {
+            count: plus(self.count, more.count)?,
+            total: plus(self.total, more.total)?,
+            self_time: plus(self.self_time, more.self_time)?,
+            unclosed: plus(self.unclosed, more.unclosed)?,
+            points: plus(self.points, more.points)?,
+        })
     }
 
     /// The value of a number.
-    pub fn by(&self, number: Number) -> Sum
+    pub fn by(&self, number: Number) -> u128
         ensures { result ≡ number_by number self.now }
     {
         match number {
@@ -106,7 +103,7 @@ impl Sums {
     }
 
     /// Gives a number this value.
-    pub fn put(&mut self, number: Number, value: Sum)
+    pub fn put(&mut self, number: Number, value: u128)
         ensures { self.new ≡ with_number number value self.old }
     {
         match number {
@@ -122,11 +119,11 @@ impl Sums {
     pub fn equals(&self, other: &Sums) -> bool
         ensures { result ≡ same_sums self.now other.now }
     {
-        self.self_time.equals(&other.self_time)
-            && self.total.equals(&other.total)
-            && self.count.equals(&other.count)
-            && self.unclosed.equals(&other.unclosed)
-            && self.points.equals(&other.points)
+        self.self_time == other.self_time
+            && self.total == other.total
+            && self.count == other.count
+            && self.unclosed == other.unclosed
+            && self.points == other.points
     }
 }
 
@@ -134,9 +131,9 @@ impl Sums {
 pub fn fits(sums: &Sums) -> bool
     ensures { result ≡ fit sums.now }
 {
-    sums.count.as_u64().is_some()
-        && sums.total.as_u64().is_some()
-        && sums.self_time.as_u64().is_some()
-        && sums.unclosed.as_u64().is_some()
-        && sums.points.as_u64().is_some()
+    is_narrow(sums.count)
+        && is_narrow(sums.total)
+        && is_narrow(sums.self_time)
+        && is_narrow(sums.unclosed)
+        && is_narrow(sums.points)
 }

@@ -1,6 +1,6 @@
 //! A table of spans.
-ghost use Rattle.std.specs.Prelude.{◌≡◌, ◌^◌, ◌∷◌, [], option_copied, IfOk};
-ghost use Rattle.span_table.specs.{Columns.run_of, Counts.AreCountsWithin, Tables.{RowsRise, table_of}};
+ghost use Rattle.std.specs.Prelude.{◌≡◌, ◌∷◌, [], option_copied, IfOk};
+ghost use Rattle.span_table.specs.{Columns.run_of, Tables.{RowsRise, table_of}};
 
 use crate::column::Column;
 use crate::counts::TableCounts;
@@ -32,13 +32,13 @@ pub struct Table {
 }
 
 impl Model for Table {
-    ghost use Rattle.span_table.specs.{Kept.IsTabled, Tables.SpanTable};
+    ghost use Rattle.span_table.specs.Tables.{RowsRise, SpanTable};
 
     ghost Value = { SpanTable };
 
     ghost view = { λ t. record { of = t.of; columns = t.columns.items; counts = t.counts; rows = t.rows.items } };
 
-    ghost invariant = { λ t. IsTabled t.counts t.rows.items };
+    ghost invariant = { λ t. RowsRise t.rows.items };
 }
 
 impl Table {
@@ -81,8 +81,7 @@ impl Table {
     }
 
     pub fn counts(&self) -> TableCounts
-        ensures value { result ≡ self.now.counts }
-        ensures bound { AreCountsWithin (2 ^ 96) self.now.counts }
+        ensures { result ≡ self.now.counts }
     {
         self.counts
     }

@@ -1,6 +1,6 @@
 //! Tables of runs, and tables that were printed, added as they come.
-ghost use Rattle.std.specs.Prelude.{◌≡◌, ◌+◌, ◌<◌, ◌≤◌, ◌^◌, ◌∷◌, [], ℕ, true, option_copied, IfOk, IfErr, OnErr, OnOk};
-ghost use Rattle.span_table.specs.{Adding.{JoinsRuns, TakesRuns, add_tables, with_counts, with_row, with_run}, Collected.{AllWithin, RowsWithin}, Columns.run_of, Counts.counts_fit, Kept.rows_with, Sums.fit, Tables.{RowsRise, table_of}, declared.table_sum.SumFault.TheVariants.TooMany};
+ghost use Rattle.std.specs.Prelude.{◌≡◌, ◌+◌, ◌<◌, ◌≤◌, ◌^◌, ◌∷◌, [], option_copied, IfOk, IfErr, OnErr, OnOk};
+ghost use Rattle.span_table.specs.{Adding.{JoinsRuns, TakesRuns, add_tables, with_counts, with_row, with_run}, Columns.run_of, Kept.rows_with, Tables.{RowsRise, table_of}, declared.table_sum.SumFault.TheVariants.TooMany};
 
 use crate::collected::RunColumns;
 use crate::column::{Column, copies_of};
@@ -18,9 +18,6 @@ use std::marker::Model;
 
 // A sum has fewer parts than this, so that no number of it is too great.
 const PARTS: u64 = 1 << 32;
-
-// So many rows of each part are added at most.
-const ROWS: u128 = 1 << 64;
 
 /// Why nothing was added. A sum that was handed over is lost.
 #[derive(Clone, Copy, Debug, PartialEq, Eq)]
@@ -52,9 +49,7 @@ pub struct TableSum {
     // Rows in order, and what was added to them since.
     rows: Vec<Row>,
     groups: Groups,
-    // How many parts there are, and how many rows were added one by one.
     parts: u64,
-    row_count: u128,
 }
 
 impl Model for TableSum {
@@ -64,7 +59,7 @@ impl Model for TableSum {
 
     ghost view = { λ s. record { parts = s.parts; table = record { of = s.of; columns = s.columns.items; counts = s.counts; rows = rows_with s.rows.items s.groups } } };
 
-    ghost invariant = { λ s. IsSummed s.parts s.row_count s.counts s.rows.items s.groups };
+    ghost invariant = { λ s. IsSummed s.parts s.rows.items s.groups };
 }
 
 impl TableSum {
@@ -85,7 +80,6 @@ impl TableSum {
             rows: Vec::new(alloc),
             groups: Groups::new(alloc, keys),
             parts: 0,
-            row_count: 0,
         })
     }
 
@@ -130,14 +124,14 @@ impl TableSum {
         ensures added { IfOk result (λ sum. sum.table ≡ with_run self.table run.now) }
         ensures parts { IfOk result (λ sum. sum.parts ≡ self.parts + 1) }
     {
-        let (mut counts, mut groups) = (self.counts, self.groups);
+        let counts = self.counts.plus(&TableCounts::of(run))?;
+        let mut groups = self.groups;
         let by = RunColumns {
             alloc: *self.rows.allocator(),
             run,
             columns: &self.columns,
         };
         by.add_to(&mut groups, self.of)?;
-        counts.add(&TableCounts::of(run));
         Ok(TableSum {
             counts,
             groups,
@@ -148,33 +142,26 @@ impl TableSum {
 
     /// With the counts of a table, whose rows are then added. It is one part.
     pub fn add_counts(&mut self, counts: &TableCounts) -> Result<(), SumFault>
-        requires { counts_fit counts.now ≡ true }
         ensures added { OnOk result (self.new.table ≡ with_counts self.old.table counts.now) }
         ensures parts { OnOk result (self.new.parts ≡ self.old.parts + 1) }
         ensures refused { OnErr result (self.new ≡ self.old) }
-        ensures too_many { IfErr result (λ fault.
-            (fault ≡ TooMany) × (2 ^ 32 ≤ self.old.parts + 1)) }
+        ensures too_many { IfErr result (λ fault. fault ≡ TooMany → 2 ^ 32 ≤ self.old.parts + 1) }
     {
         if self.parts + 1 >= PARTS {
             return Err(SumFault::TooMany);
         }
-        self.counts.add(counts);
+        self.counts = self.counts.plus(counts)?;
         self.parts += 1;
         Ok(())
     }
 
-    /// Adds a row of a table. 2^64 of them are added for each part, and one that is refused changes nothing.
-    pub fn add_row(&mut self, row: &Row) -> Result<(), SumFault>
-        requires { fit row.now.sums ≡ true }
+    /// Adds a row of a table. One that is refused changes nothing.
+    pub fn add_row(&mut self, row: &Row) -> Result<(), AllocError>
         ensures added { OnOk result (self.new.table ≡ with_row self.old.table row.now) }
         ensures parts { self.new.parts ≡ self.old.parts }
         ensures refused { OnErr result (self.new ≡ self.old) }
     {
-        if self.row_count >= u128::from(self.parts) * ROWS {
-            return Err(SumFault::TooMany);
-        }
         self.groups.add_copy(&row.key, &row.sums)?;
-        self.row_count += 1;
         Ok(())
     }
 
@@ -207,14 +194,11 @@ impl TableSum {
         let groups = self.groups.none_beside();
         let rows = all_in_order(self.rows, self.groups)?;
         let more = all_in_order(other.rows, other.groups)?;
-        let mut counts = self.counts;
-        counts.add(&other.counts);
         Ok(TableSum {
-            counts,
+            counts: self.counts.plus(&other.counts)?,
             rows: merged(rows, more)?,
             groups,
             parts: self.parts + other.parts,
-            row_count: self.row_count + other.row_count,
             ..self
         })
     }
@@ -235,12 +219,8 @@ impl TableSum {
 // Rows in order, with what was added to them since.
 fn all_in_order(rows: Vec<Row>, groups: Groups) -> Result<Vec<Row>, AllocError>
     requires rise { RowsRise rows.items }
-    requires mine { RowsWithin (2 ^ 198) rows.items }
-    requires its { AllWithin (2 ^ 198) groups }
     ensures rows { IfOk result (λ all. all.items ≡ rows_with rows.items groups) }
     ensures rise { IfOk result (λ all. RowsRise all.items) }
-    ensures bound { IfOk result (λ all. (m n : ℕ) → RowsWithin m rows.items → AllWithin n groups
-        → RowsWithin (m + n) all.items) }
 {
     merged(rows, groups.into_rows()?)
 }

@@ -4,7 +4,7 @@ use Rattle.std.proofs.{Common.{◌≡◌, ℕ, ◌+◌, ◌<◌, ◌==◌, Bool,
 use Rattle.span_event.specs.declared.thread.Thread.{Thread}
 use Rattle.span_keyed_tracks.proofs.{Keyed.has_key, SameKeys.{All-ascending, step_keys}, Uses.is_eq-turned}
 use Rattle.span_table.proofs.{Rows.RowsRise-rows_of, SomeAsync.async_rows-some, Tallies.{sum_by-both, tally, tally-cons}}
-use Rattle.span_table_text.specs.{Words, Arguments, Bytes, Unit, AsyncRow, AsyncKey, Keyed, entry_of, keys_in, steps_at, accepted, async_rows, names_of, thread_keys, Timed, timed_spans, Column, Pid, Tid, Process, Thread as OfThread, Name, File, Cat, Scope, Id, Argument, Of, Spans, Async, Sums, Row, Run, async_value_at, goes_with, value_at, key_cmp_total, TableKey, key_cmp, KeyedSums, RowsRise, SpanTable, keyed_async, keyed_span, row_of, rows_of, run_sums, sums_together, table_of, thread_sums, Json.shown_table, Printed.{AllFit, AllIsPrinted, AreColumns, HasFile, HasOwn, HasSome, HaveFiles, IsKeyOf, IsOfLegal, IsName, IsOfArgument, IsPart, IsPrint, IsTable, IsWords, KeyFits, MayHave, PrintsAreParts}, Shown.{Wanted, is_wanted, key_has, wants_all}}
+use Rattle.span_table_text.specs.{Words, Arguments, Bytes, Unit, AsyncKey, Keyed, entry_of, keys_in, steps_at, accepted, async_rows, names_of, thread_keys, Timed, timed_spans, Column, Pid, Tid, Process, Thread as OfThread, Name, File, Cat, Scope, Id, Argument, Of, Spans, Async, Sums, Row, Run, async_value_at, goes_with, value_at, key_cmp_total, TableKey, key_cmp, KeyedSums, RowsRise, SpanTable, keyed_async, keyed_span, row_of, rows_of, run_sums, sums_together, table_of, thread_sums, Json.shown_table, Printed.{AllFit, AllIsPrinted, AreColumns, HasFile, HasOwn, HasSome, HaveFiles, IsKeyOf, IsOfLegal, IsName, IsOfArgument, IsPart, IsPrint, IsTable, IsWords, KeyFits, MayHave, PrintsAreParts}, Shown.{Wanted, is_wanted, key_has, wants_all}}
 use Rattle.span_table_text.proofs.{Determined.{HasOwnNumbers, HasWholeKeys, prints-determined}, PrintedLines.numbers_fit-each, Ranked.filter-sorted}
 
 -- what holds of all that each gives holds of all that they give

@@ -1,11 +1,11 @@
 -- Of tables that are added, the rows that are shown are those that are shown of each, added.
 use Rattle.std.specs.Ordering.{is_eq}
-use Rattle.std.proofs.{Common.{◌≡◌, Bool, true, false, cond, ◌&&◌, ◌||◌, List, [], ◌∷◌, ◌++◌, filter, flat_map, map, refl, sym, ap, ap₂, subst, ◌∙◌}, lemmas.{Bool.and_parts, List.Elements.filter-append}}
+use Rattle.std.proofs.{Common.{◌≡◌, Bool, true, false, cond, ◌&&◌, ◌||◌, List, [], ◌∷◌, ◌++◌, filter, flat_map, map, refl, sym, ap, ap₂, ◌∙◌}, lemmas.{Bool.and_parts, List.Elements.filter-append}}
 use Rattle.span_self_time.proofs.Mapped.{filter-map}
-use Rattle.span_keyed_tracks.proofs.{Keyed.{has_key, same_from_is_eq}, SameKeys.step_keys, Uses.is_eq-turned}
+use Rattle.span_keyed_tracks.proofs.{Keyed.{has_key, same_from_is_eq}, SameKeys.step_keys}
 use Rattle.span_table.specs.{Adding.{keyed_row, keyed_rows}, KeyLaws.key_cmp-same}
 use Rattle.span_table.proofs.{AddedTables.{rows-back, rows_of-alike}, Alike.AddUpAlike, OwnRows.rows_of-own, Rows.RowsRise-rows_of}
-use Rattle.span_table_text.specs.{Keyed, Column, Of, Sums, Row, steps_at, add_tables, key_cmp_total, TableKey, key_cmp, KeyedSums, SpanTable, counts_together, rows_of, sums_together, Json.shown_table, Printed.ShownRowsAdd, Shown.{Wanted, is_wanted}}
+use Rattle.span_table_text.specs.{Keyed, Sums, Row, steps_at, key_cmp_total, TableKey, key_cmp, KeyedSums, SpanTable, counts_together, rows_of, sums_together, Json.shown_table, Printed.ShownRowsAdd, Shown.{is_wanted}}
 use Rattle.span_table_text.proofs.Ranked.{filter-sorted}
 
 module _ (p : TableKey → Bool) where

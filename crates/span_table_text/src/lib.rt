@@ -14,4 +14,4 @@ pub use members::column_names;
 pub use rankings::ranking;
 pub use shown::Shown;
 pub use span_event::{ArgValue, Text, Unit};
-pub use span_table::{Column, EntryCounts, Key, Number, Of, Row, Sum, Sums, Table, TableCounts};
+pub use span_table::{Column, EntryCounts, Key, Number, Of, Row, Sums, Table, TableCounts};

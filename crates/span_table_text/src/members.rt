@@ -5,7 +5,7 @@ ghost use Rattle.span_table_text.specs.{column_name, counts_fit, entry_counts_fi
 
 use json::Writer;
 use span_event::{ArgValue, Text, Unit};
-use span_table::{Column, EntryCounts, Number, Of, Sum, Sums, TableCounts};
+use span_table::{Column, EntryCounts, Number, Of, Sums, TableCounts};
 use std::alloc::{AllocError, Global};
 
 /// What these columns are called.
@@ -93,9 +93,9 @@ pub fn put_counts(writer: &mut Writer, counts: &TableCounts) -> Result<(), Alloc
     requires { counts_fit counts.now ≡ true }
     ensures { Appends result writer.old writer.new (counts_tokens counts.now) }
 {
-    put_count(writer, "runs", counts.runs)?;
-    put_count(writer, "files", counts.files)?;
-    put_count(writer, "unread", counts.unread)?;
+    put_number(writer, "runs", counts.runs)?;
+    put_number(writer, "files", counts.files)?;
+    put_number(writer, "unread", counts.unread)?;
     put_entry_counts(writer, &counts.entries)
 }
 
@@ -104,20 +104,20 @@ fn put_entry_counts(writer: &mut Writer, entries: &EntryCounts) -> Result<(), Al
     requires { entry_counts_fit entries.now ≡ true }
     ensures { Appends result writer.old writer.new (entry_counts_tokens entries.now) }
 {
-    put_count(writer, "events", entries.accepted)?;
-    put_count(writer, "refused", entries.refused)?;
-    put_count(writer, "skipped", entries.skipped)?;
-    put_count(writer, "queries", entries.queries)?;
-    put_count(writer, "seals", entries.seals)
+    put_number(writer, "events", entries.accepted)?;
+    put_number(writer, "refused", entries.refused)?;
+    put_number(writer, "skipped", entries.skipped)?;
+    put_number(writer, "queries", entries.queries)?;
+    put_number(writer, "seals", entries.seals)
 }
 
-/// Writes a count that 64 bits hold, under its name.
-pub fn put_count(writer: &mut Writer, name: &str, count: u128) -> Result<(), AllocError>
-    requires { count < 2 ^ 64 }
-    ensures { Appends result writer.old writer.new (number_tokens name.now count) }
+/// Writes a number that 64 bits hold, under its name.
+pub fn put_number(writer: &mut Writer, name: &str, number: u128) -> Result<(), AllocError>
+    requires { number < 2 ^ 64 }
+    ensures { Appends result writer.old writer.new (number_tokens name.now number) }
 {
     writer.key(name)?;
-    writer.u64(count as u64)
+    writer.u64(number as u64)
 }
 
 /// Writes these numbers of a row, each under its name.
@@ -126,21 +126,9 @@ pub fn put_numbers(writer: &mut Writer, numbers: &[Number], sums: &Sums) -> Resu
     ensures { Appends result writer.old writer.new (sums_tokens numbers.now sums.now) }
 {
     for number in numbers {
-        put_sum(writer, number.name(), &sums.by(*number))?;
+        put_number(writer, number.name(), sums.by(*number))?;
     }
     Ok(())
-}
-
-/// Writes a sum that 64 bits hold, under its name.
-pub fn put_sum(writer: &mut Writer, name: &str, sum: &Sum) -> Result<(), AllocError>
-    requires { sum.now < 2 ^ 64 }
-    ensures { Appends result writer.old writer.new (number_tokens name.now sum.now) }
-{
-    let Some(number) = sum.as_u64() else {
-        return Ok(());
-    };
-    writer.key(name)?;
-    writer.u64(number)
 }
 
 /// Writes each column that has a value, with it, of columns of these names.

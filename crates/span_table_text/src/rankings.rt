@@ -59,7 +59,7 @@ fn compare(shown: &ShownRow, other: &ShownRow, by: Number) -> Ordering
 {
     let (row, next) = (shown.row, other.row);
     let by_key = row.key.cmp(&next.key);
-    next.sums.by(by).compare(&row.sums.by(by)).then(by_key)
+    next.sums.by(by).cmp(&row.sums.by(by)).then(by_key)
 }
 
 // The first rows in the order of a ranking, so many at most. The others are told from them, and not put in order.

@@ -62,8 +62,8 @@ pub fn value_cells(alloc: Global, numbers: &[Number], sums: &Sums) -> Result<Vec
 {
     let mut cells = Vec::with_capacity(alloc, numbers.len())?;
     for number in numbers {
-        let word = sums.by(*number).shown(alloc)?;
-        cells.push(Cell::of(*number, word))?;
+        let value = sums.by(*number);
+        cells.push(Cell::of(*number, format!(in alloc; "{value}")?))?;
     }
     Ok(cells)
 }

@@ -2,24 +2,12 @@
 use Rattle.std.proofs.{Common.{◌≡◌, ◌≤◌, Bool, true, List, [], ◌∷◌, ◌++◌, length, map, Option, inl, inr, refl, ap, ◌∙◌, arith}, lemmas.{List.length-map, Slice.Zip.AllZip-long}}
 use Rattle.span_event.specs.declared.unit.Unit.TheVariants.{Microseconds}
 use Rattle.span_table.specs.declared.of.Of.TheVariants.{Spans}
-use Rattle.span_runs.proofs.GatheredFiles.{length-gathered}
 use Rattle.span_request.specs.declared.tasks.Items.TheVariants.{Apart as EachApart, Printed, Together}
 use Rattle.span_tasks.specs.{Bytes, Listed, Number, Name, SourceBytes, Items, PartSum, SpanTable, TableOptions, run_alone, shorter, table_of, table_of_run, Added.Adds, Sides.{AreSides, IsOneSide, IsSide, StopSides, StopsOneSide, StopsSide}, declared.side.Side.Side}
 
 -- parts of no tables, where no kind is asked for
 pub no-parts : PartSum
 no-parts = record { of = Spans; unit = Microseconds; columns = []; places = []; sum = table_of Spans [] [] }
-
--- a side that has a table of each name has few where there are few names
-pub length-side : (source : SourceBytes) (items : Items) (options : TableOptions) (parts : PartSum) (files : Listed) (side : Side) → IsSide source items options true parts files side → length files.names.items ≤ 64 → length side.tables.items ≤ 64
-length-side source (Together settings) options parts files side is few = let one = ap length is.1.is in omega (arith, one)
-length-side source (EachApart settings) options parts files side is few =
-    let runs = map (run_alone settings) is.1.files in
-    let same = ap length is.1.runs ∙ length-map (map (shorter files.cut) runs) (table_of_run options.of options.columns.items) ∙ length-map runs (shorter files.cut)
-    ∙ length-gathered source files.names.items settings is.1.files is.1.read in
-    omega (arith, same, few)
-length-side source Printed options parts files side is few =
-    let same = AllZip-long (λ (name : Name) (table : SpanTable). Adds source parts (name ∷ []) table) files.names.items side.tables.items is.1 in omega (arith, same, few)
 
 module _ (source : SourceBytes) (options : TableOptions) (by : Option Number) (each : Bool) where
   IsSide-runs : (items : Items) (one other : PartSum) (files : Listed) (side : Side) → (items ≡ Printed → ⊥) → IsSide source items options each one files side → IsSide source items options each other files side

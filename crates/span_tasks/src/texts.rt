@@ -1,5 +1,5 @@
 //! The texts of tables.
-ghost use Rattle.std.specs.Prelude.{◌≡◌, ◌≤◌, true, false, length, string_bytes, IfOk, IfErr};
+ghost use Rattle.std.specs.Prelude.{◌≡◌, true, false, string_bytes, IfOk, IfErr};
 ghost use Rattle.span_table_text.specs.declared.json_lines.JsonFault.TheVariants.{TooGreat};
 ghost use Rattle.span_tasks.specs.{OfStop, TooGreatFault, number_of, run_line, Texts.{IsTableText, TableExceeds, asked_by, changes_fit, changes_text, repeats_fit, repeats_text}};
 
@@ -84,8 +84,6 @@ impl<'a> TableTexts<'a> {
         base: &Side,
         other: &Side,
     ) -> Result<Vec<u8>, Halt>
-        requires base { length base.now.tables.items ≤ 64 }
-        requires other { length other.now.tables.items ≤ 64 }
         ensures text { IfOk result (λ text. text.items
             ≡ repeats_text self.now.unit base.now.of base.now.columns.items asked.now.by
             asked.now.form self.now.shown.now base.now.tables.items other.now.tables.items) }

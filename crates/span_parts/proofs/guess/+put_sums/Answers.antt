@@ -13,4 +13,4 @@ returns t c = λ sums rest fits is.
     let next = is ∙ ap (λ numbers. sums_tokens numbers sums ++ rest) split ∙ ap (λ name. number_tokens name (number_by first sums) ++ (sums_tokens later sums ++ rest)) (sym c.name.ensures) in
     let found = c.in_ok-value.ensures (number_by first sums) (sums_tokens later sums ++ rest) (number_by-small first sums fits) next in
     let others = c.in_ok-rest.ensures sums rest fits found.1 in
-    (others.0, c.put.ensures ∙ ap₂ (with_number first) (c.of.ensures ∙ c.from.ensures ∙ found.0) others.1 ∙ ap (λ numbers. only numbers sums) (sym split))
+    (others.0, c.put.ensures ∙ ap₂ (with_number first) (c.from.ensures ∙ found.0) others.1 ∙ ap (λ numbers. only numbers sums) (sym split))

@@ -26,7 +26,7 @@ loop-line-preserved c =
     let cases = c.in-Some.ensures.cases in
     let parts = split_parts 10 rest (Some (c.in-Some.line, c.in-Some.after)) cases (omega arith) in
     let ends : EndsLine rest line after = λ xs ys whole free. split_after 10 rest xs ys (Some (c.in-Some.line, c.in-Some.after)) cases (omega arith) whole (λ i lt. free i 0 lt) in
-    let adds = c.in_ok-add_row.ensures.added in (
+    let adds = c.in_ok-add_row.ensures in (
       search rules,
       AreAdded-push c.args.of c.args.columns.now c.args.places.now c.args.text.now rest c.loop-line.done c.loop-line.last c.args.sum.now.table c.loop-line.sum.table c.loop-line.invariant.1 line after c.in-Ok.row c.add_row.new.sum.table ends parts.0 c.in-Ok.ensures.row c.in-Ok.ensures.only adds,
       omega (arith, ap length parts.0, length-append line (10 ∷ after), c.loop-line.invariant.2),

@@ -1,6 +1,6 @@
-use Rattle.std.proofs.{Common.{◌≡◌, ◌+◌, ◌++◌, [], sym, ap, subst, ◌∙◌, arith}, lemmas.{Grind.common_steps, List.{append-nil, nil_from_length}}}
-use Rattle.span_table.specs.{Adding.keyed_rows, Collected.RowsWithin, Tables.{RowsRise, rows_of}}
-use Rattle.span_table.proofs.{Merged.{RowsWithin-merged, merged-rows_of}, OwnRows.rows_of-own, Rows.RowsRise-rows_of}
+use Rattle.std.proofs.{Common.{◌≡◌, ◌++◌, [], sym, ap, subst, ◌∙◌, arith}, lemmas.{Grind.common_steps, List.{append-nil, nil_from_length}}}
+use Rattle.span_table.specs.{Adding.keyed_rows, Tables.{RowsRise, rows_of}}
+use Rattle.span_table.proofs.{Merged.merged-rows_of, OwnRows.rows_of-own, Rows.RowsRise-rows_of}
 use Rattle.span_table.proofs.merging.merged.Goals as goal
 
 pub returns-then-is_empty-clause-rows : goal.returns-then-is_empty-clause-rows
@@ -19,11 +19,7 @@ pub returns : goal.returns
 returns c =
     let rows = c.args.rows.items in
     let more = c.args.more.items in
-    let all = c.loop-row.all.items in
-    let is = sym (append-nil all) ∙ ap (λ rest. all ++ rest) (sym (c.next_row.ensures.all c.in_default.is)) ∙ c.loop-row.invariant.rows in
+    let all = c.loop-right.all.items in
+    let is = sym (append-nil all) ∙ ap (λ rest. all ++ rest) (sym (c.in_ok-row.ensures.all c.in_default.is)) ∙ c.loop-right.invariant in
     let of = is ∙ merged-rows_of rows more c.requires.rise c.requires.others in
-    record {
-      rows = of;
-      rise = subst RowsRise (sym of) (RowsRise-rows_of (keyed_rows rows ++ keyed_rows more));
-      bound = λ m n mine its. subst (RowsWithin (m + n)) (sym is) (RowsWithin-merged m n rows more mine its);
-    }
+    record { rows = of; rise = subst RowsRise (sym of) (RowsRise-rows_of (keyed_rows rows ++ keyed_rows more)) }

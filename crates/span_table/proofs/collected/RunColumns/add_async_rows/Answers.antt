@@ -1,15 +1,12 @@
-use Rattle.std.proofs.{Common.{◌+◌, ◌*◌, ◌≤◌, ◌^◌, ◌∷◌, [], length, map, ap, subst, ◌∙◌, arith}, lemmas.List.map_push}
+use Rattle.std.proofs.{Common.{◌∷◌, [], map, ap, subst, ◌∙◌}, lemmas.List.map_push}
 use Rattle.span_table.specs.{async_rows, Collected.Takes, Columns.Run, Tables.keyed_async}
-use Rattle.span_table.proofs.{FewRows.length-async_rows, Summing.{AllWithin-le, Takes-all, Takes-next}}
+use Rattle.span_table.proofs.Summing.{Takes-all, Takes-next}
 use Rattle.span_table.proofs.collected.RunColumns.add_async_rows.Goals as goal
-
-pub add_async_row-requires : goal.add_async_row-requires
-add_async_row-requires c = AllWithin-le (2 ^ 198 + c.loop-row.row-index * 2 ^ 128) (2 ^ 200) c.loop-row.groups (omega arith) (c.loop-row.invariant.grows (2 ^ 198) c.requires)
 
 pub loop-row-preserved : goal.loop-row-preserved
 loop-row-preserved c =
     let make = keyed_async c.args.self.now.columns.now c.args.self.now.run.now in
-    Takes-next (map make) (λ row. make row ∷ []) (map_push make) (2 ^ 128) c.deref-row-items.result.now c.args.groups.now c.loop-row.row-index c.row-item.result c.loop-row.groups c.add_async_row.new.groups
+    Takes-next (map make) (λ row. make row ∷ []) (map_push make) c.deref-row-items.result.now c.args.groups.now c.loop-row.row-index c.row-item.result c.loop-row.groups c.add_async_row.new.groups
     c.loop-row-test.true c.row-item.is c.loop-row.invariant c.in_ok-add_async_row.ensures
 
 pub returns : goal.returns
@@ -17,6 +14,5 @@ returns c =
     let make = keyed_async c.args.self.now.columns.now c.args.self.now.run.now in
     let at = c.loop-row.row-index in
     let rows = c.deref-row-items.ensures.value ∙ c.in_ok-rows.ensures.rows ∙ ap (λ (run : Run). async_rows run.journal) c.run.view_is in
-    let few : at * 2 ^ 128 ≤ 2 ^ 160 = omega (arith, ap length rows, length-async_rows c.args.self.now.run.now.journal, c.entries.ensures.few) in
-    subst (λ items. Takes (2 ^ 160) c.args.groups.now c.loop-row.groups (map make items)) rows
-    (Takes-all (map make) (λ row. make row ∷ []) (map_push make) (2 ^ 128) c.deref-row-items.result.now c.args.groups.now at (2 ^ 160) c.loop-row.groups c.loop-row-test.false few c.loop-row.invariant)
+    subst (λ items. Takes c.args.groups.now c.loop-row.groups (map make items)) rows
+    (Takes-all (map make) (λ row. make row ∷ []) (map_push make) c.deref-row-items.result.now c.args.groups.now at c.loop-row.groups c.loop-row-test.false c.loop-row.invariant)

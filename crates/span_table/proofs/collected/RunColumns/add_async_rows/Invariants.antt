@@ -1,7 +1,7 @@
-use Rattle.std.proofs.Common.{◌*◌, ◌^◌, map, take}
+use Rattle.std.proofs.Common.{map, take}
 use Rattle.span_table.specs.{Collected.Takes, Tables.keyed_async}
 use Rattle.span_table.proofs.collected.RunColumns.add_async_rows.Given as goal
 
--- the rows so far are taken, each of at most 128 bits
+-- the rows so far are taken
 abbrev pub invariant-loop-row : goal.invariant-loop-row
-invariant-loop-row l = Takes (l.row-index * 2 ^ 128) l.fn.groups l.groups (map (keyed_async l.self.columns.now l.self.run.now) (take l.row-index l.row-items))
+invariant-loop-row l = Takes l.fn.groups l.groups (map (keyed_async l.self.columns.now l.self.run.now) (take l.row-index l.row-items))

@@ -1,9 +1,9 @@
-use Rattle.std.proofs.Common.{rules, ◌≡◌, ◌^◌}
+use Rattle.std.proofs.Common.{rules, ◌≡◌}
 use Rattle.span_table.specs.Collected.{keyed_span_row}
-use Rattle.span_table.proofs.Summing.{taken-within}
+use Rattle.span_table.proofs.Summing.{taken-as}
 use Rattle.span_table.proofs.collected.RunColumns.add_row.Goals as goal
 
 pub returns : goal.returns
 returns c =
     let key : c.in_ok-key.key ≡ (keyed_span_row c.args.self.now.columns.now c.args.self.now.run.now c.args.row.now).key = search rules in
-    taken-within (2 ^ 128) c.add.result c.in_ok-key.key _ c.of_row.result _ c.args.groups.now c.add.new.self key c.of_row.ensures.value c.of_row.ensures.bound c.add.ensures.takes
+    taken-as c.add.result c.in_ok-key.key _ c.of_row.result _ c.args.groups.now c.add.new.self key c.of_row.ensures c.add.ensures.takes

@@ -1,17 +1,14 @@
 use Rattle.std.specs.Prelude.{flat_map}
-use Rattle.std.proofs.{Common.{rules, ◌≡◌, ◌+◌, ◌*◌, ◌≤◌, ◌^◌, List, ◌∷◌, [], ◌++◌, length, map, refl, sym, ap, subst, ◌∙◌, arith}, lemmas.List.{flat_map_more, length-map}}
+use Rattle.std.proofs.{Common.{rules, ◌≡◌, List, ◌∷◌, [], ◌++◌, map, refl, sym, ap, subst, ◌∙◌}, lemmas.List.{flat_map_more}}
 use Rattle.span_table.specs.{Thread, ThreadRow, accepted, thread_of_row, thread_keys, thread_row, thread_rows, Collected.Takes, Columns.Run, Tables.{KeyedSums, thread_sums}}
-use Rattle.span_table.proofs.{FewRows.length-thread_keys, Summing.{AllWithin-le, Takes-all, Takes-next}}
+use Rattle.span_table.proofs.Summing.{Takes-all, Takes-next}
 use Rattle.span_table.proofs.collected.RunColumns.add_spans.Goals as goal
-
-pub add_thread-requires : goal.add_thread-requires
-add_thread-requires c = AllWithin-le (2 ^ 198 + c.loop-row.row-index * 2 ^ 128) (2 ^ 199) c.loop-row.groups (omega arith) (c.loop-row.invariant.grows (2 ^ 198) c.requires)
 
 pub loop-row-preserved : goal.loop-row-preserved
 loop-row-preserved c =
     let each = λ (row : ThreadRow). thread_sums c.args.self.now.columns.now c.args.self.now.run.now (thread_of_row row) in
-    let taken : Takes (2 ^ 128) c.loop-row.groups c.add_thread.new.groups (each c.row-item.result) = search rules in
-    Takes-next (flat_map each) each (λ rows row. sym (flat_map_more each [] rows row)) (2 ^ 128) c.deref-row-items.result.now c.args.groups.now c.loop-row.row-index c.row-item.result c.loop-row.groups c.add_thread.new.groups
+    let taken : Takes c.loop-row.groups c.add_thread.new.groups (each c.row-item.result) = search rules in
+    Takes-next (flat_map each) each (λ rows row. sym (flat_map_more each [] rows row)) c.deref-row-items.result.now c.args.groups.now c.loop-row.row-index c.row-item.result c.loop-row.groups c.add_thread.new.groups
     c.loop-row-test.true c.row-item.is c.loop-row.invariant taken
 
 pub returns : goal.returns
@@ -22,9 +19,8 @@ returns c =
     let each = λ (row : ThreadRow). make (thread_of_row row) in
     let at = c.loop-row.row-index in
     let rows = c.deref-row-items.ensures.value ∙ c.in_ok-threads.ensures.rows ∙ ap (λ (run : Run). thread_rows run.journal) c.run.view_is in
-    let few : at * 2 ^ 128 ≤ 2 ^ 160 = omega (arith, ap length rows, length-map threads (thread_row journal), length-thread_keys journal, c.entries.ensures.few) in
-    subst (Takes (2 ^ 160) c.args.groups.now c.loop-row.groups) (ap (flat_map each) rows ∙ by_thread journal make threads)
-    (Takes-all (flat_map each) each (λ rows row. sym (flat_map_more each [] rows row)) (2 ^ 128) c.deref-row-items.result.now c.args.groups.now at (2 ^ 160) c.loop-row.groups c.loop-row-test.false few c.loop-row.invariant)
+    subst (Takes c.args.groups.now c.loop-row.groups) (ap (flat_map each) rows ∙ by_thread journal make threads)
+    (Takes-all (flat_map each) each (λ rows row. sym (flat_map_more each [] rows row)) c.deref-row-items.result.now c.args.groups.now at c.loop-row.groups c.loop-row-test.false c.loop-row.invariant)
   where
     by_thread : (journal : _) (make : Thread → KeyedSums) (threads : List Thread) → flat_map (λ (row : ThreadRow). make (thread_of_row row)) (map (thread_row journal) threads) ≡ flat_map make threads
     by_thread journal make [] = refl

@@ -1,8 +1,7 @@
 use Rattle.std.specs.{List.Sorted.IsPermutation, Map.keys_of}
 use Rattle.std.proofs.{Common.{rules, map, refl, ap, subst, sym, ◌∙◌}, lemmas.Cmp.on_total}
 use Rattle.span_keyed_tracks.proofs.{InKeyOrder.AreApart-distinct, KeyOrder.{IsDistinct-rows, ascending-rows}, Sorted.ascending-sorted, Sorting.{IsSorted-from_sort_by, sorted-ascending}}
-use Rattle.span_table.specs.{Collected.RowsWithin, KeyLaws.{key_cmp_total, key_cmp-same}, Tables.{RowsRise, row_of}, declared.table.Row.Row}
-use Rattle.span_table.proofs.Kept.{RowsWithin-row_of}
+use Rattle.span_table.specs.{KeyLaws.{key_cmp_total, key_cmp-same}, Tables.{RowsRise, row_of}, declared.table.Row.Row}
 use Rattle.span_table.proofs.groups.Groups.into_rows.Goals as goal
 
 pub returns : goal.returns
@@ -15,8 +14,4 @@ returns c =
     let apart = AreApart-distinct key_cmp_total (keys_of entries) c.self.invariant in
     let placed = sorted-ascending total (map row_of entries) sorted (IsDistinct-rows key_cmp_total key_cmp-same key row_of (λ e. refl) entries apart) moved (IsSorted-from_sort_by total sorted c.sort_unstable_by.ensures.sorted (λ a r f' call. search rules)) in
     let rows = placed ∙ ascending-rows key_cmp_total key_cmp-same key row_of (λ e. refl) entries apart ∙ ap (map row_of) c.self.view_is in
-    record {
-      rows = rows;
-      rise = subst RowsRise (sym placed) (ascending-sorted total (map row_of entries));
-      bound = λ n within. subst (RowsWithin n) (sym rows) (RowsWithin-row_of n c.args.self within);
-    }
+    record { rows = rows; rise = subst RowsRise (sym placed) (ascending-sorted total (map row_of entries)) }

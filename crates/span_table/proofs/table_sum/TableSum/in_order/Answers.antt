@@ -1,4 +1,4 @@
-use Rattle.std.proofs.Common.{◌+◌, ◌++◌, map, sym, ap₂, subst, ◌∙◌}
+use Rattle.std.proofs.Common.{◌++◌, map, sym, ap₂, subst, ◌∙◌}
 use Rattle.span_table.specs.{Adding.keyed_rows, Kept.{IsSummed, rows_with}, Tables.{SumsByKey, row_of}}
 use Rattle.span_table.proofs.Kept.{IsSummed-rows, rows_with-none}
 use Rattle.span_table.proofs.table_sum.TableSum.in_order.Goals as goal
@@ -8,8 +8,8 @@ invariant_of-result c =
     let own = c.self.inside in
     let all = c.in_ok-rows.rows.items in
     let is = c.self.invariant in
-    subst (λ (kept : SumsByKey). IsSummed own.parts own.row_count own.counts all kept) (sym c.none_beside-groups.ensures)
-    (IsSummed-rows own.parts own.row_count own.counts all (is.most + is.kept_most) is.few is.few_added is.numbers c.in_ok-rows.ensures.rise (c.in_ok-rows.ensures.bound is.most is.kept_most is.within is.kept_within) is.bound)
+    subst (λ (kept : SumsByKey). IsSummed own.parts all kept) (sym c.none_beside-groups.ensures)
+    (IsSummed-rows own.parts all is.few c.in_ok-rows.ensures.rise)
 
 pub returns : goal.returns
 returns c =

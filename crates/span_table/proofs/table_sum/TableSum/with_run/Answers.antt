@@ -1,6 +1,6 @@
-use Rattle.std.proofs.Common.{◌+◌, ◌<◌, ◌^◌, List, [], ◌∷◌, sym, ap, subst, ◌∙◌, arith}
-use Rattle.span_table.specs.{Adding.{SummedTable, with_run}, Collected.Takes, Kept.IsSummed, Tables.{counts_together, run_sums}, declared.{column.Column.Column, counts.TableCounts.TableCounts}}
-use Rattle.span_table.proofs.Kept.{IsSummed-part, counts-run, rows_with-run}
+use Rattle.std.proofs.Common.{◌+◌, ◌<◌, ◌^◌, List, [], ◌∷◌, ap, subst, ◌∙◌, arith}
+use Rattle.span_table.specs.{Adding.{SummedTable, with_run}, Collected.Takes, Tables.{counts_together, run_sums}, declared.{column.Column.Column, counts.TableCounts.TableCounts}}
+use Rattle.span_table.proofs.Kept.{IsSummed-taken, counts-run, rows_with-run}
 use Rattle.span_table.proofs.table_sum.TableSum.with_run.Goals as goal
 
 pub invariant_of-result : goal.invariant_of-result
@@ -9,16 +9,15 @@ invariant_of-result c =
     let new = c.add_to.new.groups in
     let same = ap (λ (sum : SummedTable). sum.parts) c.self.view_is in
     let few : own.parts + 1 < 2 ^ 32 = omega (arith, same, c.requires) in
-    subst (λ (counts : TableCounts). IsSummed (own.parts + 1) own.row_count counts own.rows.items new) (sym c.add.ensures)
-    (IsSummed-part c.self.invariant c.of.result new _ few c.of.ensures.bound c.in_ok-add_to.ensures)
+    IsSummed-taken (own.parts + 1) own.rows.items own.groups new _ few c.self.invariant.rise c.self.invariant.kept_rise c.in_ok-add_to.ensures
 
 pub returns-clause-added : goal.returns-clause-added
 returns-clause-added c =
     let own = c.self.inside in
     let new = c.add_to.new.groups in
     let run = c.args.run.now in
-    let takes = subst (λ (columns : List Column). Takes (2 ^ 160) own.groups new (run_sums own.of columns run)) c.deref.ensures.value c.in_ok-add_to.ensures in
-    let counts = c.add.ensures ∙ ap (λ (more : TableCounts). counts_together (own.counts ∷ more ∷ [])) c.of.ensures.value ∙ counts-run own.counts run in
+    let takes = subst (λ (columns : List Column). Takes own.groups new (run_sums own.of columns run)) c.deref.ensures.value c.in_ok-add_to.ensures in
+    let counts = c.in_ok-counts.ensures ∙ ap (λ (more : TableCounts). counts_together (own.counts ∷ more ∷ [])) c.of.ensures ∙ counts-run own.counts run in
     let rows = rows_with-run own.rows.items own.groups new (run_sums own.of own.columns.items run) c.self.invariant.kept_rise takes in
     (λ i. record { of = own.of; columns = own.columns.items; counts = counts i; rows = rows i })
     ∙ ap (λ (sum : SummedTable). with_run sum.table run) c.self.view_is

@@ -1,20 +1,6 @@
 use Rattle.std.proofs.Common.{inr, ap, ◌∙◌}
 use Rattle.span_runs.proofs.Stopping.{OfStop-weaker}
-use Rattle.span_tasks.proofs.BothSides.{length-side}
 use Rattle.span_tasks.proofs.place.Place.print_repetitions.Goals as goal
-
--- a table of each name, of which there are few
-pub repetitions-requires-clause-base : goal.repetitions-requires-clause-base
-repetitions-requires-clause-base g c =
-    let few = rw (c.deref.ensures.value, c.deref-2.ensures.value) at (c.are_few.ensures.0 c.if-not-are_few.false) in
-    let sides = c.in-Ok.ensures.sides in
-    length-side (g.S.Source.bytes c.args.self.now.source.now) c.args.task.now.items c.args.task.now.options sides.parts c.args.base.now c.in-Ok.sides.base sides.earlier few.base
-
-pub repetitions-requires-clause-other : goal.repetitions-requires-clause-other
-repetitions-requires-clause-other g c =
-    let few = rw (c.deref.ensures.value, c.deref-2.ensures.value) at (c.are_few.ensures.0 c.if-not-are_few.false) in
-    let sides = c.in-Ok.ensures.sides in
-    length-side (g.S.Source.bytes c.args.self.now.source.now) c.args.task.now.items c.args.task.now.options sides.parts c.args.files.now c.in-Ok.sides.other sides.later few.other
 
 -- a number is too great
 pub returns-in-Err-repetitions : goal.returns-in-Err-repetitions
