@@ -1,0 +1,5 @@
+mod Examples
+mod Utf8
+mod WritingLemmas
+mod MarkLemmas
+mod Taking
