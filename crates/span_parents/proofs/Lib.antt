@@ -1,0 +1,6 @@
+mod Order
+mod Links
+mod Highest
+mod Finding
+mod Placing
+mod Places
