@@ -17,6 +17,7 @@ pub mod Results
 pub mod SameKeys
 pub mod Selection
 pub mod SeriesKept
+pub mod SeriesNumbers
 pub mod Sorted
 pub mod Sorting
 pub mod Uses

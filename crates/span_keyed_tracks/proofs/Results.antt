@@ -1,5 +1,5 @@
 -- What is said of a result where it is Ok, or an Err, from what was said of it before.
-use Rattle.std.specs.{Prelude.{Result, Ok, Err, IfOk, OnOk, OnErr}, Result.is_err}
+use Rattle.std.specs.{Prelude.{Result, Ok, Err, IfOk, OnOk}, Result.is_err}
 use Rattle.std.proofs.Common.{◌≡◌, false}
 
 -- what follows from a fact that holds on Ok holds on Ok

@@ -1,6 +1,6 @@
 -- How series are kept, and how they change with one more event.
-use Rattle.std.specs.{Cmp.{IsEquivalence, and_equiv, int_eq_equiv, on_equiv, Lexicographic.{nat_list_eq_equiv, options_equiv}}, Int.{int_min, int_max}, List.AllByRecursion, Map.{keys_of, lookup}, Option.option_eq, Ordering.int_eq, Prelude.{◌≡◌, IfSome, position, ℕ, ◌+◌, ◌&&◌, Bool, pos, List, map, int_lt, Option, Some, None, unwrap_or, if◌then◌else◌}}
-use Rattle.span_keyed_tracks.specs.{ArgValue, Event, as_whole, same_id, Bytes, same_text, Counters.{CountersKept, Sample, Series, series_key}, declared.{counter_track.{SeriesRow.SeriesRow, running.{Held.{Held, TheVariants.{One, Many}}, Sums.Sums}}, keys.SeriesKey.SeriesKey}}
+use Rattle.std.specs.{Int.{int_min, int_max}, List.{AllByRecursion, IsDistinct}, Map.{keys_of, lookup}, Option.option_eq, Ordering.int_eq, Prelude.{◌≡◌, ◌<◌, ◌-◌, ◌^◌, IfSome, position, ℕ, ◌+◌, ◌&&◌, Bool, pos, List, [], get_or, length, map, nat_eq, int_lt, Option, Some, None, unwrap_or, if◌then◌else◌}}
+use Rattle.span_keyed_tracks.specs.{ArgValue, Event, as_whole, same_id, Bytes, same_text, Counters.{CountersKept, Sample, Series}, declared.{counter_track.{SeriesRow.SeriesRow, counter.{Counter.Counter, NumberedSeries.NumberedSeries}, running.{Held.{Held, TheVariants.{One, Many}}, Sums.Sums}}, keys.SeriesKey.SeriesKey}}
 
 -- how many samples there are
 abbrev pub samples_before : Option Series → ℕ
@@ -40,23 +40,65 @@ kept_row e = record { key = e.0; totals = e.1.totals }
 abbrev pub same_series : SeriesKey → SeriesKey → Bool
 same_series a b = int_eq a.pid b.pid && (same_text a.name b.name && (option_eq same_id a.id b.id && same_text a.series b.series))
 
-pub same_series-equiv : IsEquivalence same_series
-same_series-equiv =
-    and_equiv (on_equiv (λ k. k.pid) int_eq_equiv)
-    (and_equiv (on_equiv (λ k. k.name) nat_list_eq_equiv)
-    (and_equiv (on_equiv (λ k. k.id) (options_equiv (and_equiv (on_equiv (λ i. i.home) (options_equiv int_eq_equiv)) (on_equiv (λ i. i.id) nat_list_eq_equiv)))) (on_equiv (λ k. k.series) nat_list_eq_equiv)))
-
 -- what is found at a key
 abbrev pub found_at : List (SeriesKey × Series) → SeriesKey → Option Series
 found_at entries key = lookup (same_series key) entries
 
--- the place, if there is one, is that of the key
-abbrev pub IsPlaced : List (SeriesKey × Series) → Option ℕ → SeriesKey → Type 0
-IsPlaced entries place key = IfSome place (λ i. position (same_series key) (keys_of entries) ≡ Some i)
+-- the counter of an event
+abbrev pub counter_of : Event → Counter
+counter_of event = record { pid = event.pid; name = event.name; id = event.key }
 
-abbrev pub ArePlaced : List (SeriesKey × Series) → List (Option ℕ × SeriesKey × Series) → Type 0
+-- the counter of a series
+abbrev pub counter_of_key : SeriesKey → Counter
+counter_of_key key = record { pid = key.pid; name = key.name; id = key.id }
+
+-- the key of a series of a counter
+abbrev pub key_of : Counter → Bytes → SeriesKey
+key_of counter series = record { pid = counter.pid; name = counter.name; id = counter.id; series = series }
+
+-- the same process, name and id
+abbrev pub same_counter : Counter → Counter → Bool
+same_counter a b = int_eq a.pid b.pid && (same_text a.name b.name && option_eq same_id a.id b.id)
+
+-- the counter that has a number
+abbrev pub counter_at : List Counter → ℕ → Counter
+counter_at counters number = get_or counters number (record { pid = pos 0; name = []; id = None })
+
+-- the key of a series of the counter with a number
+abbrev pub key_at : List Counter → NumberedSeries → SeriesKey
+key_at counters key = key_of (counter_at counters key.counter) key.series
+
+-- series under their keys
+abbrev pub named : List Counter → List (NumberedSeries × Series) → List (SeriesKey × Series)
+named counters entries = map (λ e. (key_at counters e.0, e.1)) entries
+
+-- each number is that of a counter
+abbrev pub HaveCounters : List Counter → List (NumberedSeries × Series) → Type 0
+HaveCounters counters entries = AllByRecursion (λ e. e.0.counter < length counters) entries
+
+-- no counter has two numbers, and each number is that of a counter
+abbrev pub AreNumbered : List Counter → List (NumberedSeries × Series) → Type 0
+AreNumbered counters entries = IsDistinct same_counter counters × HaveCounters counters entries
+
+-- the same number of a counter, and the same name of a series
+abbrev pub same_numbered : NumberedSeries → NumberedSeries → Bool
+same_numbered a b = nat_eq a.counter b.counter && same_text a.series b.series
+
+-- what is found of a series of the counter with a number
+abbrev pub found_in : List (NumberedSeries × Series) → ℕ → Bytes → Option Series
+found_in entries counter series = lookup (same_numbered (record { counter = counter; series = series })) entries
+
+-- there is room for the number of one more sample of any series of the counter with a number
+abbrev pub HasRoomIn : List (NumberedSeries × Series) → ℕ → Type 0
+HasRoomIn entries counter = (series : Bytes) → samples_before (found_in entries counter series) < 2 ^ 32 - 1
+
+-- the place, if there is one, is that of the key
+abbrev pub IsPlaced : List (NumberedSeries × Series) → Option ℕ → NumberedSeries → Type 0
+IsPlaced entries place key = IfSome place (λ i. position (same_numbered key) (keys_of entries) ≡ Some i)
+
+abbrev pub ArePlaced : List (NumberedSeries × Series) → List (Option ℕ × NumberedSeries × Series) → Type 0
 ArePlaced entries next = AllByRecursion (λ n. IsPlaced entries n.0 n.1) next
 
--- a series of an event's counter, once it has the event's value of it
-abbrev pub next_entry : List (SeriesKey × Series) → Event → Bytes × ArgValue → SeriesKey × Series
-next_entry entries event member = (series_key event member.0, with_sample (found_at entries (series_key event member.0)) (record { ts = event.ts; value = unwrap_or (as_whole member.1) (pos 0) }))
+-- a series of an event's counter, which has this number, once it has the event's value of it
+abbrev pub next_entry : List (NumberedSeries × Series) → ℕ → Event → Bytes × ArgValue → NumberedSeries × Series
+next_entry entries counter event member = (record { counter = counter; series = member.0 }, with_sample (found_in entries counter member.0) (record { ts = event.ts; value = unwrap_or (as_whole member.1) (pos 0) }))

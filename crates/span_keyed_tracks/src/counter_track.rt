@@ -1,19 +1,20 @@
 //! The track of counters.
-ghost use Rattle.std.specs.{Map.values_of, Prelude.{◌≡◌, ◌+◌, ◌<◌, ◌≤◌, [], None, map, option_and_then, option_copied, slice_get, vec_len, IfOk, OnOk, OnErr}};
+ghost use Rattle.std.specs.{Map.values_of, Prelude.{◌≡◌, ◌+◌, ◌<◌, ◌≤◌, [], None, length, map, option_and_then, option_copied, slice_get, vec_len, IfOk, OnOk, OnErr}};
 ghost use Rattle.indexmap.specs.IndexMap.{insert_all, insert_entry, spare};
-ghost use Rattle.span_keyed_tracks.specs.{Event, Counter as CounterPhase, AllWhole, IsGood, Gives, Counters.{CounterStandsFor, HasCounterRoom, TakesCounter, series_rows, series_totals}, CountersKept.{ArePlaced, IsPlaced, found_at, kept_row, kept_series, next_entry, same_series}, Fault.Answers};
+ghost use Rattle.span_keyed_tracks.specs.{Event, Counter as CounterPhase, AllWhole, IsGood, Gives, Counters.{CounterStandsFor, HasCounterRoom, TakesCounter, series_cmp, series_rows, series_totals}, CountersKept.{AreNumbered, ArePlaced, HasRoomIn, IsPlaced, found_at, key_at, kept_row, kept_series, named, next_entry, same_numbered, same_series}, Fault.Answers};
 
+mod counter;
 mod running;
-mod shared_key;
 
 use crate::fault::TrackFault;
 use crate::keys::SeriesKey;
-use indexmap::IndexMap;
+use counter::{Counter, NumberedSeries};
+use indexmap::{IndexMap, IndexSet};
 use running::Running;
-use shared_key::{Counter, SharedKey};
-use span_event::{ArgValue, Event};
+use span_event::{ArgValue, Event, Text};
 use span_names::HashKeys;
 use std::alloc::{AllocError, Global};
+use std::cmp::Ordering;
 use std::marker::Model;
 
 /// The samples of one series.
@@ -37,16 +38,17 @@ pub struct SeriesRow {
 /// A series that has a sample, where the track keeps it. A contract sees its row.
 #[derive(Drop)]
 pub struct SeriesRef<'a> {
-    key: &'a SharedKey,
+    counter: &'a Counter,
+    series: &'a Text,
     running: &'a Running,
 }
 
 impl<'a> Model for SeriesRef<'a> {
-    ghost use Rattle.span_keyed_tracks.specs.declared.counter_track.SeriesRow.{SeriesRow};
+    ghost use Rattle.span_keyed_tracks.specs.{CountersKept.key_of, declared.counter_track.SeriesRow.{SeriesRow}};
 
     ghost Value = { SeriesRow };
 
-    ghost view = { λ s. record { key = s.key.now; totals = s.running.now.totals } };
+    ghost view = { λ s. record { key = key_of s.counter.now s.series.now; totals = s.running.now.totals } };
 }
 
 impl SeriesRef<'_> {
@@ -55,27 +57,39 @@ impl SeriesRef<'_> {
         ensures { IfOk result (λ row. row ≡ self.now) }
     {
         Ok(SeriesRow {
-            key: self.key.to_key(alloc)?,
+            key: self.counter.key_of(alloc, self.series)?,
             totals: self.running.totals(),
         })
     }
+
+    fn order(&self, other: &SeriesRef<'_>) -> Ordering
+        ensures { result ≡ series_cmp self.now.key other.now.key }
+    {
+        let (a, b) = (self.counter, other.counter);
+        (a.pid, (&a.name, (&a.id, self.series))).cmp(&(b.pid, (&b.name, (&b.id, other.series))))
+    }
 }
 
-type Entries = IndexMap<SharedKey, Running, HashKeys>;
+type Counters = IndexSet<Counter, HashKeys>;
+
+type Entries = IndexMap<NumberedSeries, Running, HashKeys>;
 
 /// The series of all counters.
 #[derive(Drop)]
 pub struct CounterTrack {
     alloc: Global,
+    counters: Counters,
     series: Entries,
 }
 
 impl Model for CounterTrack {
-    ghost use Rattle.span_keyed_tracks.specs.{Counters.CountersKept, CountersKept.kept_series};
+    ghost use Rattle.span_keyed_tracks.specs.{Counters.CountersKept, CountersKept.{AreNumbered, kept_series, named}};
 
     ghost Value = { CountersKept };
 
-    ghost view = { λ t. kept_series t.series.entries };
+    ghost view = { λ t. kept_series (named t.counters.keys t.series.entries) };
+
+    ghost invariant = { λ t. AreNumbered t.counters.keys t.series.entries };
 }
 
 impl CounterTrack {
@@ -92,6 +106,7 @@ impl CounterTrack {
     {
         CounterTrack {
             alloc,
+            counters: IndexSet::with_hasher(alloc, keys),
             series: IndexMap::with_hasher(alloc, keys),
         }
     }
@@ -105,21 +120,17 @@ impl CounterTrack {
         ensures stands { OnOk result (TakesCounter self.old self.new event.now) }
         ensures err { OnErr result (self.new ≡ self.old) }
     {
-        let Ok(()) = self.series.reserve(event.args.pairs().len()) else {
-            return Err(TrackFault::Memory);
-        };
-        let Ok(next) = next_entries(self.alloc, &self.series, event) else {
-            return Err(TrackFault::Memory);
-        };
-        put_all(&mut self.series, next);
-        Ok(())
+        match take(self.alloc, &mut self.counters, &mut self.series, event) {
+            Ok(()) => Ok(()),
+            Err(_) => Err(TrackFault::Memory),
+        }
     }
 
     /// What the samples of the series give; nothing where it has none. Takes memory for a copy of the key, for so long, if there is any.
     pub fn of(&self, key: &SeriesKey) -> Option<SeriesTotals>
         ensures { Gives CounterStandsFor self.now (series_totals key.now) result }
     {
-        let running = find(self.alloc, &self.series, key)?;
+        let running = find(self.alloc, &self.counters, &self.series, key)?;
         Some(running.totals())
     }
 
@@ -127,8 +138,8 @@ impl CounterTrack {
     pub fn sorted(&self, alloc: Global) -> Result<Vec<SeriesRef<'_>>, AllocError>
         ensures { IfOk result (λ rows. Gives CounterStandsFor self.now series_rows rows.items) }
     {
-        let mut sorted = refs_of(alloc, &self.series)?;
-        sorted.sort_unstable_by(|a, b| a.key.order(b.key));
+        let mut sorted = refs_of(alloc, &self.counters, &self.series)?;
+        sorted.sort_unstable_by(|a, b| a.order(b));
         Ok(sorted)
     }
 
@@ -145,25 +156,61 @@ impl CounterTrack {
     }
 }
 
-// A series that an event has a value of: its place, where it has one, its key, and what is kept of it then.
-type Next = (Option<usize>, SharedKey, Running);
-
-// What each series of the event's counter is once it has the event's value of it.
-fn next_entries(alloc: Global, entries: &Entries, event: &Event) -> Result<Vec<Next>, AllocError>
+// Takes an event: room is made and copies are taken before anything changes.
+fn take(
+    alloc: Global,
+    counters: &mut Counters,
+    entries: &mut Entries,
+    event: &Event,
+) -> Result<(), AllocError>
     requires whole { AllWhole event.now.args }
-    requires room { HasCounterRoom (kept_series entries.now.entries) }
+    requires numbered { AreNumbered counters.old.keys entries.old.entries }
+    requires room { HasCounterRoom (kept_series (named counters.old.keys entries.old.entries)) }
+    ensures stands { OnOk result
+        (TakesCounter (kept_series (named counters.old.keys entries.old.entries))
+        (kept_series (named counters.new.keys entries.new.entries)) event.now) }
+    ensures numbered { AreNumbered counters.new.keys entries.new.entries }
+    ensures counters_err { OnErr result (counters.new.keys ≡ counters.old.keys) }
+    ensures err { OnErr result (entries.new.entries ≡ entries.old.entries) }
+{
+    entries.reserve(event.args.pairs().len())?;
+    counters.reserve(1)?;
+    let counter = Counter::of(alloc, event)?;
+    let number = counters.get_index_of(&counter).unwrap_or(counters.len());
+    let next = next_entries(alloc, entries, number, event)?;
+    if counters.insert(counter).is_err() {
+        unreachable!();
+    }
+    put_all(entries, next);
+    Ok(())
+}
+
+// A series that an event has a value of: its place, where it has one, its key, and what is kept of it then.
+type Next = (Option<usize>, NumberedSeries, Running);
+
+// What each series of the event's counter, which has this number, is once it has the event's value of it.
+fn next_entries(
+    alloc: Global,
+    entries: &Entries,
+    counter: usize,
+    event: &Event,
+) -> Result<Vec<Next>, AllocError>
+    requires whole { AllWhole event.now.args }
+    requires room { HasRoomIn entries.now.entries counter }
     ensures next { IfOk result (λ next. map (λ n. (n.1, n.2)) next.items
-        ≡ map (next_entry entries.now.entries event.now) event.now.args) }
+        ≡ map (next_entry entries.now.entries counter event.now) event.now.args) }
     ensures places { IfOk result (λ next. ArePlaced entries.now.entries next.items) }
 {
-    let counter = Counter::shared(alloc, event.pid, &event.name, &event.key)?;
     let members = event.args.pairs();
     let mut next = Vec::with_capacity(alloc, members.len())?;
     for (series, value) in members {
         let ArgValue::Whole(value) = value else {
             unreachable!();
         };
-        let key = SharedKey::new(alloc, &counter, series)?;
+        let key = NumberedSeries {
+            counter,
+            series: series.try_clone(alloc)?,
+        };
         let place = entries.get_index_of(&key);
         let running = Running::with(alloc, at(entries, place), event.ts, *value)?;
         next.push((place, key, running))?;
@@ -187,7 +234,7 @@ fn put_all(entries: &mut Entries, next: Vec<Next>)
     requires fits { vec_len next ≤ spare entries.old }
     requires places { ArePlaced entries.old.entries next.items }
     ensures { entries.new.entries
-        ≡ insert_all same_series entries.old.entries (map (λ n. (n.1, n.2)) next.items) }
+        ≡ insert_all same_numbered entries.old.entries (map (λ n. (n.1, n.2)) next.items) }
 {
     for (place, key, running) in next {
         put(entries, place, key, running);
@@ -195,11 +242,11 @@ fn put_all(entries: &mut Entries, next: Vec<Next>)
 }
 
 // Keeps one: a key that has a place is not looked up again.
-fn put(entries: &mut Entries, place: Option<usize>, key: SharedKey, running: Running)
+fn put(entries: &mut Entries, place: Option<usize>, key: NumberedSeries, running: Running)
     requires fits { 0 < spare entries.old }
     requires placed { IsPlaced entries.old.entries place key }
     ensures entries { entries.new.entries
-        ≡ insert_entry same_series entries.old.entries key running }
+        ≡ insert_entry same_numbered entries.old.entries key running }
     ensures spare { spare entries.old ≤ spare entries.new + 1 }
 {
     match place {
@@ -217,34 +264,74 @@ fn put(entries: &mut Entries, place: Option<usize>, key: SharedKey, running: Run
 }
 
 // What is kept at a key.
-fn find<'a>(alloc: Global, entries: &'a Entries, key: &SeriesKey) -> Option<&'a Running>
-    ensures { option_copied result ≡ found_at entries.now.entries key.now }
+fn find<'a>(
+    alloc: Global,
+    counters: &Counters,
+    entries: &'a Entries,
+    key: &SeriesKey,
+) -> Option<&'a Running>
+    requires { AreNumbered counters.now.keys entries.now.entries }
+    ensures { option_copied result
+        ≡ found_at (named counters.now.keys entries.now.entries) key.now }
 {
-    match SharedKey::copy_of(alloc, key) {
-        Ok(key) => entries.get(&key),
-        Err(_) => search(entries, key),
-    }
+    let Ok(counter) = Counter::of_key(alloc, key) else {
+        return search(counters, entries, key);
+    };
+    let Ok(series) = key.series.try_clone(alloc) else {
+        return search(counters, entries, key);
+    };
+    let counter = counters.get_index_of(&counter)?;
+    entries.get(&NumberedSeries { counter, series })
 }
 
 // The same, where there is no copy of the key to look up.
-fn search<'a>(entries: &'a Entries, key: &SeriesKey) -> Option<&'a Running>
-    ensures { option_copied result ≡ found_at entries.now.entries key.now }
+fn search<'a>(counters: &Counters, entries: &'a Entries, key: &SeriesKey) -> Option<&'a Running>
+    requires { AreNumbered counters.now.keys entries.now.entries }
+    ensures { option_copied result
+        ≡ found_at (named counters.now.keys entries.now.entries) key.now }
 {
     for (kept, running) in entries {
-        if kept.is(key) {
+        if has_key(counters, kept, key) {
             return Some(running);
         }
     }
     None
 }
 
+// Whether that is the key of a series.
+fn has_key(counters: &Counters, kept: &NumberedSeries, key: &SeriesKey) -> bool
+    requires { kept.now.counter < length counters.now.keys }
+    ensures { result ≡ same_series key.now (key_at counters.now.keys kept.now) }
+{
+    match counters.get_index(kept.counter) {
+        Some(counter) => {
+            (key.pid, (&key.name, (&key.id, &key.series)))
+                == (counter.pid, (&counter.name, (&counter.id, &kept.series)))
+        }
+        None => unreachable!(),
+    }
+}
+
 // The series in the order of their first samples.
-fn refs_of(alloc: Global, entries: &Entries) -> Result<Vec<SeriesRef<'_>>, AllocError>
-    ensures { IfOk result (λ refs. refs.items ≡ map kept_row entries.now.entries) }
+fn refs_of<'a>(
+    alloc: Global,
+    counters: &'a Counters,
+    entries: &'a Entries,
+) -> Result<Vec<SeriesRef<'a>>, AllocError>
+    requires { AreNumbered counters.now.keys entries.now.entries }
+    ensures { IfOk result (λ refs. refs.items
+        ≡ map kept_row (named counters.now.keys entries.now.entries)) }
 {
     let mut refs = Vec::with_capacity(alloc, entries.len())?;
     for (key, running) in entries {
-        refs.push(SeriesRef { key, running })?;
+        let Some(counter) = counters.get_index(key.counter) else {
+            unreachable!();
+        };
+        refs.push(SeriesRef {
+            counter,
+            series: &key.series,
+            running,
+        })?;
     }
     Ok(refs)
 }

@@ -1,6 +1,6 @@
 -- The last element of a list, and the others.
 use Rattle.std.specs.Option.{option_or, option_map}
-use Rattle.std.proofs.{Common.{◌≡◌, true, suc, ◌-◌, List, [], ◌∷◌, ◌++◌, length, take, slice_get, map, Option, Some, None, is_some, refl, sym, ap, subst, ◌∙◌, arith, All}, lemmas.List.Elements.{All-head, All-tail}}
+use Rattle.std.proofs.{Common.{◌≡◌, suc, ◌-◌, List, [], ◌∷◌, ◌++◌, length, take, slice_get, map, Option, Some, None, refl, sym, ap, subst, ◌∙◌, arith, All}, lemmas.List.Elements.{All-head, All-tail}}
 use Rattle.span_keyed_tracks.specs.Last.{last_of, without_last}
 
 -- the element that was added is the last

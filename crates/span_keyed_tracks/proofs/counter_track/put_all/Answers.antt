@@ -1,7 +1,7 @@
 use Rattle.std.specs.Vec.Iter.{into_iter_items}
 use Rattle.std.proofs.Common.{rules, ◌≡◌, ℕ, ◌∷◌, Option, map, length, sym, ap, subst, ◌∙◌, arith}
 use Rattle.indexmap.specs.IndexMap.{insert_all}
-use Rattle.span_keyed_tracks.specs.{Counters.Series, CountersKept.{ArePlaced, same_series}, declared.keys.SeriesKey.SeriesKey}
+use Rattle.span_keyed_tracks.specs.{Counters.Series, CountersKept.{ArePlaced, same_numbered}, declared.counter_track.counter.NumberedSeries.NumberedSeries}
 use Rattle.span_keyed_tracks.proofs.SeriesKept.{ArePlaced-put}
 use Rattle.span_keyed_tracks.proofs.counter_track.put_all.Goals as goal
 
@@ -13,8 +13,8 @@ loop-place-preserved c =
     let items : into_iter_items c.loop-place.place-iterator ≡ (c.in-Some.place, c.in-Some.key, c.in-Some.running) ∷ rest = search rules in
     let put = c.put.ensures.entries in
     let placed : ArePlaced m ((c.in-Some.place, c.in-Some.key, c.in-Some.running) ∷ rest) = subst (ArePlaced m) items inv.1 in (
-      ap (λ es. insert_all same_series es (map (λ (n : Option ℕ × SeriesKey × Series). (n.1, n.2)) rest)) put
-          ∙ ap (λ ns. insert_all same_series m (map (λ (n : Option ℕ × SeriesKey × Series). (n.1, n.2)) ns)) (sym items) ∙ inv.0,
+      ap (λ es. insert_all same_numbered es (map (λ (n : Option ℕ × NumberedSeries × Series). (n.1, n.2)) rest)) put
+          ∙ ap (λ ns. insert_all same_numbered m (map (λ (n : Option ℕ × NumberedSeries × Series). (n.1, n.2)) ns)) (sym items) ∙ inv.0,
       subst (λ es. ArePlaced es rest) (sym put) (ArePlaced-put m c.in-Some.key c.in-Some.running rest placed.1),
       omega (arith, ap length items, inv.2, c.put.ensures.spare),
     )
