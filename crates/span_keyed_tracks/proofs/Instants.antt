@@ -1,11 +1,11 @@
 -- What is kept of instants, from one instant to the next.
-use Rattle.std.specs.{List.cons_option, Ordering.is_eq, Prelude.flat_map}
-use Rattle.std.proofs.{Common.{◌≡◌, ◌+◌, ◌≤◌, ◌<◌, ◌^◌, ◌-◌, List, [], ◌∷◌, ◌++◌, length, cond, Option, Some, None, refl, sym, ap, ◌∙◌, arith, append-nil, append_assoc}, lemmas.{Cmp.nat_list_cmp_total, Grind.flat_map-append, List.{Elements.filter_map-append, Sums.{sum_by-append, count_by-le-length}}}}
+use Rattle.std.specs.{BTreeMap.insert_entry, Cmp.{tied_itself, Lexicographic.{nat_list_eq_equiv, texts_ties}}, List.{cons_option, Sorted.IsStrictlySortedBy}, Map.keys_of, Ordering.{is_eq, match_ordering}, Prelude.{flat_map, unwrap_or}}
+use Rattle.std.proofs.{Common.{◌≡◌, ◌+◌, ◌≤◌, ◌<◌, ◌^◌, ◌-◌, List, [], ◌∷◌, ◌++◌, length, cond, true, false, Option, Some, None, refl, sym, ap, subst, ◌∙◌, arith, append-nil, append_assoc}, lemmas.{Cmp.nat_list_cmp_total, Grind.flat_map-append, List.{Elements.filter_map-append, Sums.{sum_by-append, count_by-le-length}}}}
 use Rattle.span_event.specs.declared.event.{Phase.TheVariants.Meta, Reach.TheVariants.Thread as OneThread}
 use Rattle.span_event.proofs.Orders.{text_same, thread_cmp-same}
 pub use Rattle.span_event.proofs.Orders.{thread_cmp-total}
-use Rattle.span_keyed_tracks.specs.{Event, Instant, Reach, Global, Process, Thread, reach_cmp, thread_cmp, Bytes, text_cmp, Instants.{InstantStep, NamesCounted, InstantsKept, HasNameRoom, HasInstantRoom, names_counted, instants_counted, instant_of, instants_in, is_instant, instants_of, count_of, counts_of}, InstantsKept.{count_at, with_reach}, Keyed.{kept_at, steps_at}}
-use Rattle.span_keyed_tracks.proofs.Keyed.{kept_at-entries_in, length-steps_at}
+use Rattle.span_keyed_tracks.specs.{Event, Instant, Reach, Global, Process, Thread, reach_cmp, thread_cmp, Bytes, same_text, text_cmp, Instants.{InstantStep, NamesCounted, InstantsKept, ReachCounts, TakesName, HasNameRoom, HasInstantRoom, names_counted, instants_counted, instant_of, instants_in, is_instant, instants_of, count_of, counts_of}, InstantsKept.{count_at, with_reach}, Keyed.{kept_at, steps_at}}
+use Rattle.span_keyed_tracks.proofs.Keyed.{entries_in-insert_entry, kept_at-entries_in, length-steps_at}
 
 count_of-push : (reach : Reach) (rs : List Reach) (r : Reach) → count_of reach (rs ++ r ∷ []) ≡ count_of reach rs + cond (is_eq (reach_cmp r reach)) 1 0
 count_of-push reach rs r = omega (arith, sum_by-append (λ (x : Reach). cond (is_eq (reach_cmp x reach)) 1 0) rs (r ∷ []))
@@ -42,6 +42,32 @@ few_reaches kept name reach room =
     ∙ ap (count_at reach) (kept_at-entries_in nat_list_cmp_total text_same counts_of room.steps name)
     ∙ count_at-counts_of reach rs in
     omega (arith, found, count_by-le-length (λ r. is_eq (reach_cmp r reach)) rs, length-steps_at text_cmp name room.steps, room.few)
+
+-- one more instant of a name
+pub TakesName-inserted : (kept : NamesCounted) (name : Bytes) (reach : Reach) → IsStrictlySortedBy text_cmp (keys_of kept) → TakesName kept (insert_entry text_cmp kept name (with_reach (kept_at text_cmp (counts_of []) kept name) reach)) (record { key = name; step = reach })
+TakesName-inserted kept name reach sorted = λ ss stands.
+    let counts = ap (λ k. kept_at text_cmp (counts_of []) k name) stands ∙ kept_at-entries_in nat_list_cmp_total text_same counts_of ss name in
+    entries_in-insert_entry nat_list_cmp_total text_same counts_of ss (record { key = name; step = reach }) kept _ stands sorted
+    (ap (λ c. with_reach c reach) counts ∙ sym (counts_of-push (steps_at text_cmp name ss) reach))
+
+-- the same of the first name
+pub TakesName-first : (name : Bytes) (reach : Reach) → TakesName [] ((name, with_reach (counts_of []) reach) ∷ []) (record { key = name; step = reach })
+unfolding IsStrictlySortedBy
+TakesName-first name reach = TakesName-inserted [] name reach tt
+
+-- what is kept at a name, where there is only one
+pub kept_at-only : (only name : Bytes) (counts none : ReachCounts) → kept_at text_cmp none ((only, counts) ∷ []) name ≡ cond (same_text only name) counts none
+kept_at-only only name counts none =
+    ap (λ b. unwrap_or (cond b (Some counts) None) none) (sym (texts_ties name only) ∙ nat_list_eq_equiv.symm name only)
+    ∙ elim (same_text only name) as (λ b. unwrap_or (cond b (Some counts) None) none ≡ cond b counts none) [ true ↦ refl | false ↦ refl ]
+
+-- one more of the only name
+pub TakesName-only : (name : Bytes) (counts : ReachCounts) (reach : Reach) → TakesName ((name, counts) ∷ []) ((name, with_reach counts reach) ∷ []) (record { key = name; step = reach })
+unfolding IsStrictlySortedBy
+TakesName-only name counts reach =
+    let same = tied_itself nat_list_cmp_total name in
+    subst (λ r. TakesName ((name, counts) ∷ []) (match_ordering r ((name, with_reach (unwrap_or (cond (is_eq r) (Some counts) None) (counts_of [])) reach) ∷ (name, counts) ∷ []) ((name, with_reach (unwrap_or (cond (is_eq r) (Some counts) None) (counts_of [])) reach) ∷ []) ((name, counts) ∷ (name, with_reach (unwrap_or (cond (is_eq r) (Some counts) None) (counts_of [])) reach) ∷ [])) (record { key = name; step = reach }))
+    same (TakesName-inserted ((name, counts) ∷ []) name reach (tt, tt))
 
 -- a thread has room where all have
 pub few_names : (kept : InstantsKept) (thread : Thread) → HasInstantRoom kept → HasNameRoom (kept_at thread_cmp [] kept thread)

@@ -1,5 +1,5 @@
 //! The instants of all threads.
-ghost use Rattle.std.specs.Prelude.{◌≡◌, ◌++◌, [], None, IfOk, OnOk, OnErr};
+ghost use Rattle.std.specs.Prelude.{◌≡◌, ◌∷◌, ◌++◌, [], None, IfOk, OnOk, OnErr};
 ghost use Rattle.span_keyed_tracks.specs.{thread_cmp, text_cmp, Fault.Answers, Instants.{HasInstantRoom, HasNameRoom, TakesInstant, TakesName, counts_of, names_counted, rows_of_instants, rows_of_thread}, InstantsKept.count_at, Keyed.kept_at};
 
 use super::reaches::Reaches;
@@ -23,23 +23,31 @@ pub struct InstantRow {
 // The instants of one thread.
 #[derive(Drop)]
 pub(crate) struct ThreadInstants {
-    names: BTreeMap<Text, Reaches>,
+    names: Counted,
+}
+
+// Most threads that have instants have them of one name, and a map has room for several.
+#[derive(Drop)]
+enum Counted {
+    Empty,
+    One(Text, Reaches),
+    Many(Box<BTreeMap<Text, Reaches>>),
 }
 
 impl Model for ThreadInstants {
-    ghost use Rattle.span_keyed_tracks.specs.Instants.{NamesCounted};
+    ghost use Rattle.span_keyed_tracks.specs.{Instants.{NamesCounted}, InstantsKept.counted_names};
 
     ghost Value = { NamesCounted };
 
-    ghost view = { λ t. t.names.entries };
+    ghost view = { λ t. counted_names t.names };
 }
 
 impl ThreadInstants {
-    fn new(alloc: Global) -> ThreadInstants
+    fn new() -> ThreadInstants
         ensures { result ≡ names_counted [] }
     {
         ThreadInstants {
-            names: BTreeMap::new(alloc),
+            names: Counted::Empty,
         }
     }
 
@@ -50,19 +58,43 @@ impl ThreadInstants {
             (TakesName self.old self.new (record { key = name.now; step = reach })) }
         ensures err { OnErr result (self.new ≡ self.old) }
     {
-        change_at(alloc, &mut self.names, name, Reaches::new(), |reaches| {
-            reaches.add(reach);
-            Ok(())
-        })
+        match &mut self.names {
+            Counted::Empty => {
+                let Ok(name) = name.try_clone(alloc) else {
+                    return Err(TrackFault::Memory);
+                };
+                let mut reaches = Reaches::new();
+                reaches.add(reach);
+                self.names = Counted::One(name, reaches);
+                Ok(())
+            }
+            Counted::One(only, reaches) if &*only == name => {
+                reaches.add(reach);
+                Ok(())
+            }
+            Counted::One(only, reaches) => {
+                let Ok(mut names) = map_of(alloc, only, reaches) else {
+                    return Err(TrackFault::Memory);
+                };
+                add_to(alloc, &mut names, name, reach)?;
+                self.names = Counted::Many(names);
+                Ok(())
+            }
+            Counted::Many(names) => add_to(alloc, names, name, reach),
+        }
     }
 
     fn of(&self, name: &Text, reach: Reach) -> u32
         ensures { result
             ≡ count_at reach (kept_at text_cmp (counts_of []) self.now name.now) }
     {
-        match self.names.get(name) {
-            Some(reaches) => reaches.of(reach),
-            None => 0,
+        match &self.names {
+            Counted::One(only, reaches) if only == name => reaches.of(reach),
+            Counted::Many(names) => match names.get(name) {
+                Some(reaches) => reaches.of(reach),
+                None => 0,
+            },
+            _ => 0,
         }
     }
 
@@ -75,11 +107,59 @@ impl ThreadInstants {
         ensures { OnOk result (rows.new.items
             ≡ rows.old.items ++ rows_of_thread (thread, self.now)) }
     {
-        for (name, reaches) in &self.names {
-            reaches.push_rows(alloc, rows, thread, name)?;
+        match &self.names {
+            Counted::Empty => Ok(()),
+            Counted::One(name, reaches) => reaches.push_rows(alloc, rows, thread, name),
+            Counted::Many(names) => push_all(alloc, rows, thread, names),
         }
-        Ok(())
     }
+}
+
+fn push_all(
+    alloc: Global,
+    rows: &mut Vec<InstantRow>,
+    thread: Thread,
+    names: &BTreeMap<Text, Reaches>,
+) -> Result<(), AllocError>
+    ensures { OnOk result (rows.new.items
+        ≡ rows.old.items ++ rows_of_thread (thread, names.now.entries)) }
+{
+    for (name, reaches) in names {
+        reaches.push_rows(alloc, rows, thread, name)?;
+    }
+    Ok(())
+}
+
+// A map of one name.
+fn map_of(
+    alloc: Global,
+    name: &Text,
+    reaches: &Reaches,
+) -> Result<Box<BTreeMap<Text, Reaches>>, AllocError>
+    ensures { IfOk result (λ names. names.value.entries ≡ (name.now, reaches.now) ∷ []) }
+{
+    let mut names = BTreeMap::new(alloc);
+    names.insert(name.try_clone(alloc)?, reaches.copy())?;
+    let names = Box::new(alloc, names)?;
+    Ok(names)
+}
+
+fn add_to(
+    alloc: Global,
+    names: &mut BTreeMap<Text, Reaches>,
+    name: &Text,
+    reach: Reach,
+) -> Result<(), TrackFault>
+    requires { HasNameRoom names.old.entries }
+    ensures refusal { Answers result None }
+    ensures takes { OnOk result
+        (TakesName names.old.entries names.new.entries (record { key = name.now; step = reach })) }
+    ensures err { OnErr result (names.new.entries ≡ names.old.entries) }
+{
+    change_at(alloc, names, name, Reaches::new(), |reaches| {
+        reaches.add(reach);
+        Ok(())
+    })
 }
 
 #[derive(Drop)]
@@ -117,7 +197,7 @@ impl Instants {
             (record { key = thread; step = record { key = name.now; step = reach } })) }
         ensures err { OnErr result (self.new ≡ self.old) }
     {
-        let none = ThreadInstants::new(alloc);
+        let none = ThreadInstants::new();
         change_at(alloc, &mut self.threads, &thread, none, |instants| {
             instants.add(alloc, name, reach)
         })

@@ -33,6 +33,16 @@ impl Reaches {
         }
     }
 
+    pub(crate) fn copy(&self) -> Reaches
+        ensures { result ≡ self.now }
+    {
+        Reaches {
+            global: self.global,
+            process: self.process,
+            thread: self.thread,
+        }
+    }
+
     pub(crate) fn add(&mut self, reach: Reach)
         requires { count_at reach self.old < 2 ^ 32 - 1 }
         ensures { self.new ≡ with_reach self.old reach }
@@ -84,6 +94,10 @@ fn push_row(
 {
     if count == 0 {
         return Ok(());
+    }
+    if rows.is_empty() {
+        // A list of one, as most threads have, has no more room.
+        rows.reserve_exact(1)?;
     }
     let name = name.try_clone(alloc)?;
     rows.push(InstantRow {

@@ -1,7 +1,7 @@
 use Rattle.std.specs.Prelude.{flat_map}
 use Rattle.std.proofs.Common.{◌≡◌, ◌++◌, map}
 use Rattle.span_keyed_tracks.specs.Instants.{rows_of_name}
-use Rattle.span_keyed_tracks.proofs.meta_track.instants.ThreadInstants.push_rows.Given as goal
+use Rattle.span_keyed_tracks.proofs.meta_track.instants.push_all.Given as goal
 
 -- the rows of the names that were passed
 abbrev pub invariant-loop-name : goal.invariant-loop-name
