@@ -52,7 +52,7 @@ impl Model for ProcessRows {
 
 // What is listed under one process.
 #[derive(Drop)]
-struct Group {
+pub(crate) struct Group {
     threads: Vec<Thread>,
     series: Vec<SeriesRow>,
 }
@@ -96,6 +96,46 @@ impl Group {
     }
 }
 
+/// A process with what is listed under it, from which its rows are made.
+#[derive(Drop)]
+pub struct ListedProcess {
+    pid: i64,
+    group: Group,
+}
+
+impl Model for ListedProcess {
+    ghost use Rattle.std.specs.Prelude.{ℤ};
+    ghost use Rattle.span_ledger.specs.Grouped.{Grouped};
+
+    ghost Value = { ℤ × Grouped };
+
+    ghost view = { λ p. (p.pid, p.group) };
+}
+
+// The processes that the tracks list, in ascending order.
+pub(crate) fn listed_processes(
+    alloc: Global,
+    journal: &[Entry],
+    tracks: &Tracks,
+) -> Result<Vec<ListedProcess>, AllocError>
+    requires { FollowsJournal journal.now tracks.now }
+    ensures { IfOk result (λ processes.
+        map (rows_in_group journal.now) processes.items ≡ rows_by_process journal.now) }
+{
+    let groups = grouped(alloc, tracks)?;
+    list_of(alloc, groups)
+}
+
+fn list_of(alloc: Global, groups: BTreeMap<i64, Group>) -> Result<Vec<ListedProcess>, AllocError>
+    ensures { IfOk result (λ processes. processes.items ≡ groups.entries) }
+{
+    let mut processes = Vec::with_capacity(alloc, groups.len())?;
+    for (pid, group) in groups {
+        processes.push(ListedProcess { pid, group })?;
+    }
+    Ok(processes)
+}
+
 // The rows of each process that the tracks list.
 pub(crate) fn rows_by_process(
     alloc: Global,
@@ -105,38 +145,25 @@ pub(crate) fn rows_by_process(
     requires { FollowsJournal journal.now tracks.now }
     ensures { IfOk result (λ processes. processes.items ≡ rows_by_process journal.now) }
 {
-    let groups = grouped(alloc, tracks)?;
-    rows_in_groups(alloc, journal, tracks, groups)
-}
-
-fn rows_in_groups(
-    alloc: Global,
-    journal: &[Entry],
-    tracks: &Tracks,
-    groups: BTreeMap<i64, Group>,
-) -> Result<Vec<ProcessRows>, AllocError>
-    requires { FollowsJournal journal.now tracks.now }
-    ensures { IfOk result (λ processes. processes.items
-        ≡ map (rows_in_group journal.now) groups.entries) }
-{
-    let mut processes = Vec::with_capacity(alloc, groups.len())?;
-    for (pid, group) in groups {
-        processes.push(rows_in_process(alloc, journal, tracks, pid, group)?)?;
+    let listed = listed_processes(alloc, journal, tracks)?;
+    let mut processes = Vec::with_capacity(alloc, listed.len())?;
+    for process in listed {
+        processes.push(rows_of(alloc, journal, tracks, process)?)?;
     }
     Ok(processes)
 }
 
-// The rows of a process with what is grouped under it.
-fn rows_in_process(
+// The rows of a process with what is listed under it.
+pub(crate) fn rows_of(
     alloc: Global,
     journal: &[Entry],
     tracks: &Tracks,
-    pid: i64,
-    group: Group,
+    process: ListedProcess,
 ) -> Result<ProcessRows, AllocError>
     requires { FollowsJournal journal.now tracks.now }
-    ensures { IfOk result (λ rows. rows ≡ rows_in_group journal.now (pid, group)) }
+    ensures { IfOk result (λ rows. rows ≡ rows_in_group journal.now process) }
 {
+    let ListedProcess { pid, group } = process;
     let row = process_row(alloc, journal, tracks, pid)?;
     let threads = rows_in_threads(alloc, journal, tracks, &group.threads)?;
     Ok(ProcessRows {

@@ -16,7 +16,7 @@ mod thread_tracks;
 mod track_rows;
 mod tracks;
 
-pub use by_process::{ProcessRows, ThreadRows};
+pub use by_process::{ListedProcess, ProcessRows, ThreadRows};
 pub use ledger::Ledger;
 pub use named_spans::{NamedSpan, TimedSpan};
 pub use span_event::{

@@ -1,6 +1,6 @@
 //! The text of a report: one walk over the processes of a ledger, their threads, and what each has.
 ghost use Rattle.std.specs.Prelude.{◌≡◌, ◌++◌, string_bytes, flat_map, OnOk, IfOk};
-ghost use Rattle.span_report.specs.{rows_by_process, Report.{head_lines, process_lines, report_of, thread_lines}};
+ghost use Rattle.span_report.specs.{async_rows, flow_rows, rows_by_process, Lines.{async_line, flow_line}, Report.{head_lines, process_lines, report_of, thread_lines}};
 
 use crate::lines::{Printed, first_line, put_counts, put_seals, put_unit};
 use span_event::Unit;
@@ -12,8 +12,31 @@ use std::alloc::{AllocError, Global};
 pub fn report(alloc: Global, unit: Unit, ledger: &Ledger) -> Result<Vec<u8>, AllocError>
     ensures { IfOk result (λ text. text.items ≡ report_of unit ledger.now.journal) }
 {
-    let text = report_text(alloc, unit, ledger, &ledger.rows_by_process(alloc)?)?;
-    Ok(text.into_bytes())
+    let mut out = head(alloc, unit, ledger.counts())?;
+    put_processes(alloc, ledger, &mut out)?;
+    put_keys(alloc, ledger, &mut out)?;
+    Ok(out.into_bytes())
+}
+
+// Appends the lines of each process, whose rows are dropped before those of the next are made.
+fn put_processes(alloc: Global, ledger: &Ledger, out: &mut String) -> Result<(), AllocError>
+    ensures { OnOk result (string_bytes out.new
+        ≡ string_bytes out.old ++ flat_map process_lines (rows_by_process ledger.now.journal)) }
+{
+    for process in ledger.listed_processes(alloc)? {
+        ledger.rows_of(alloc, process)?.put(alloc, out)?;
+    }
+    Ok(())
+}
+
+// Appends the lines of asynchronous keys and of flow keys.
+fn put_keys(alloc: Global, ledger: &Ledger, out: &mut String) -> Result<(), AllocError>
+    ensures { OnOk result (string_bytes out.new
+        ≡ string_bytes out.old ++ (flat_map async_line (async_rows ledger.now.journal)
+        ++ flat_map flow_line (flow_rows ledger.now.journal))) }
+{
+    put_each(alloc, out, &ledger.async_rows(alloc)?)?;
+    put_each(alloc, out, &ledger.flow_rows(alloc)?)
 }
 
 /// As `report`, for texts that hold it and need the ledger's rows by process too, which take the most time and memory.
@@ -28,8 +51,7 @@ pub fn report_text(
 {
     let mut out = head(alloc, unit, ledger.counts())?;
     put_each(alloc, &mut out, processes)?;
-    put_each(alloc, &mut out, &ledger.async_rows(alloc)?)?;
-    put_each(alloc, &mut out, &ledger.flow_rows(alloc)?)?;
+    put_keys(alloc, ledger, &mut out)?;
     Ok(out)
 }
 
