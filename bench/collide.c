@@ -115,12 +115,10 @@ static uint64_t fixed_hash_of_name(uint64_t candidate)
     return fixed_hash_of(words, 2);
 }
 
-// The series "k" of a counter of process 0, without an id: eight bytes of the process, the name, eight of the missing id, the series.
-// A byte ends each text.
+// A counter of process 0, without an id: eight bytes of the process, the name and a byte that ends it, eight of the missing id.
 static uint64_t fixed_hash_of_counter(uint64_t candidate)
 {
-    uint64_t letters = last_letters_of(candidate) >> 32 | 0xffull << 32, series = (uint64_t)'k' << 40 | 0xffull << 48 | 31ull << 56;
-    uint64_t words[] = {0, letters_of(candidate), letters, series};
+    uint64_t words[] = {0, letters_of(candidate), last_letters_of(candidate) >> 32 | 0xffull << 32, 29ull << 56};
     return fixed_hash_of(words, 4);
 }
 
