@@ -8,7 +8,8 @@ loop-seal-preserved c =
     let at = c.loop-seal in
     let seal = c.in-Some.seal in
     let added : c.apply.new.self.journal ≡ at.ledger.journal ++ next_entry c.args.ledger.now.strict at.ledger.journal 0 seal ∷ [] =
-    c.in_default.ensures.added ∙ ap (λ b. at.ledger.journal ++ next_entry b at.ledger.journal 0 seal ∷ []) at.invariant.strict in
+    c.in_default.ensures.added ∙ ap (λ op. at.ledger.journal ++ next_entry at.ledger.strict at.ledger.journal 0 op ∷ []) c.to_op.ensures
+    ∙ ap (λ b. at.ledger.journal ++ next_entry b at.ledger.journal 0 seal ∷ []) at.invariant.strict in
     record {
       added = added ∙ ap (λ journal. journal ++ next_entry c.args.ledger.now.strict journal 0 seal ∷ []) at.invariant.added ∙ sym (with_seals-push c.args.ledger.now.strict c.args.ledger.now.journal at.yielded seal);
       left = append_assoc at.yielded (seal ∷ []) _ ∙ ap (λ l. at.yielded ++ l) (sym c.in-Some.ensures.steps.0) ∙ at.invariant.left;
