@@ -1,6 +1,6 @@
 -- The faults, each with its number and its word.
 use Rattle.std.specs.Prelude.{ℕ, List, [], ◌∷◌, Option, ◌==◌, find, codes}
-use Rattle.span_event.specs.declared.fault.Fault.{Fault, TheVariants.{NotJson, NotTrace, TooLarge, TooMany, NotObject, NoPhase, NoTime, NotWhole, NoDuration, BadField, NoId, BadReach, BadSeries, NoOpenSpan, TimeGoesBack, NoOpenAsync, EndBeforeBegin, FlowOpen, NoFlow, NameDiffers, Memory, Full, Busy, CallersFull, FileCount, NotStarted, Unaccounted, Output, NotOpened, NotTable, OtherColumns, TooGreat, StacksTooLarge}}
+use Rattle.span_event.specs.declared.fault.Fault.{Fault, TheVariants.{NotJson, NotTrace, TooLarge, TooMany, NotObject, NoPhase, NoTime, NotWhole, NoDuration, BadField, NoId, BadReach, BadSeries, NoOpenSpan, TimeGoesBack, NoOpenAsync, EndBeforeBegin, FlowOpen, NoFlow, NameDiffers, Memory, Full, Busy, CallersFull, FileCount, NotStarted, Unaccounted, Output, NotOpened, NotTable, OtherColumns, TooGreat, StacksTooLarge, PageTooLarge}}
 
 abbrev pub number_of : Fault → ℕ
 number_of NotJson = 1
@@ -36,6 +36,7 @@ number_of NotTable = 53
 number_of OtherColumns = 54
 number_of TooGreat = 55
 number_of StacksTooLarge = 56
+number_of PageTooLarge = 57
 
 abbrev pub word_of : Fault → List ℕ
 word_of NotJson = codes "NotJson"
@@ -71,6 +72,7 @@ word_of NotTable = codes "NotTable"
 word_of OtherColumns = codes "OtherColumns"
 word_of TooGreat = codes "TooGreat"
 word_of StacksTooLarge = codes "StacksTooLarge"
+word_of PageTooLarge = codes "PageTooLarge"
 
 abbrev pub faults : List Fault
 faults =
@@ -78,7 +80,7 @@ faults =
     NoDuration ∷ BadField ∷ NoId ∷ BadReach ∷ BadSeries ∷ NoOpenSpan ∷ TimeGoesBack ∷
     NoOpenAsync ∷ EndBeforeBegin ∷ FlowOpen ∷ NoFlow ∷ NameDiffers ∷ Memory ∷ Full ∷ Busy ∷
     CallersFull ∷ FileCount ∷ NotStarted ∷ Unaccounted ∷ Output ∷ NotOpened ∷ NotTable ∷
-    OtherColumns ∷ TooGreat ∷ StacksTooLarge ∷ []
+    OtherColumns ∷ TooGreat ∷ StacksTooLarge ∷ PageTooLarge ∷ []
 
 -- the fault that has this number, if there is one
 unfoldable pub fault_of : ℕ → Option Fault

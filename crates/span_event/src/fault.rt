@@ -71,6 +71,8 @@ pub enum Fault {
     TooGreat = 55,
     /// 56: the folded stacks have more names than they may.
     StacksTooLarge = 56,
+    /// 57: a page has more bytes than a browser opens.
+    PageTooLarge = 57,
 }
 
 impl Fault {
@@ -119,6 +121,7 @@ impl Fault {
             Fault::OtherColumns => "OtherColumns",
             Fault::TooGreat => "TooGreat",
             Fault::StacksTooLarge => "StacksTooLarge",
+            Fault::PageTooLarge => "PageTooLarge",
         }
     }
 
@@ -161,6 +164,7 @@ impl Fault {
             54 => Fault::OtherColumns,
             55 => Fault::TooGreat,
             56 => Fault::StacksTooLarge,
+            57 => Fault::PageTooLarge,
             _ => return None,
         };
         Some(fault)
