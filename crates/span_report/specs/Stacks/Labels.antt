@@ -1,6 +1,7 @@
 -- The labels by which stacks name spans: what a span has in some columns of its own, as words of a text.
 use Rattle.std.specs.{Fmt.signed_decimal, List.{filter_map, join_with_byte}, Option.option_map, Prelude.{true, false, List, [], ◌∷◌, map, Option, Some, codes}}
-use Rattle.span_report.specs.{ArgValue, Nil, Flag, Whole, Words, Other, Thread, Arguments, value_of, Bytes, Span, closed_spans, Entry, thread_events, declared.stacks.label.SpanColumn.{SpanColumn, TheVariants.{Name, Argument}}}
+use Rattle.template_names.specs.Merged.{merged}
+use Rattle.span_report.specs.{ArgValue, Nil, Flag, Whole, Words, Other, Thread, Arguments, value_of, Bytes, Span, closed_spans, Entry, thread_events, declared.stacks.label.SpanColumn.{SpanColumn, TheVariants.{Name, Argument, MergedName, MergedArgument}}}
 
 -- a value as a word
 abbrev pub word_of : ArgValue → Bytes
@@ -11,10 +12,17 @@ word_of (Whole number) = signed_decimal number
 word_of (Words text) = text
 word_of Other = codes "..."
 
+-- the same with templates merged
+abbrev pub merged_word_of : ArgValue → Bytes
+merged_word_of (Words text) = merged text
+merged_word_of value = word_of value
+
 -- what a span of this name and these arguments has in a column, if it has anything there
 abbrev pub word_in : Bytes → Arguments → SpanColumn → Option Bytes
 word_in name args Name = Some name
 word_in name args (Argument key) = option_map word_of (value_of key args)
+word_in name args MergedName = Some (merged name)
+word_in name args (MergedArgument key) = option_map merged_word_of (value_of key args)
 
 -- the label of a span: what it has in the columns, separated by spaces
 abbrev pub label_of : List SpanColumn → Span Bytes → Bytes

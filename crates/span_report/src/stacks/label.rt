@@ -1,10 +1,12 @@
 //! The label by which a span stands in stacks: what it has in columns of its own, as words.
 ghost use Rattle.std.specs.Prelude.{◌≡◌, ◌↔◌, ◌++◌, is_some, map, string_bytes, IfOk, IsTrue, OnOk};
-ghost use Rattle.span_report.specs.Stacks.{Labelled.then_word, Labels.{by_name, label_of, word_in, word_of}};
+ghost use Rattle.span_report.specs.Stacks.{Labelled.then_word, Labels.{by_name, label_of, merged_word_of, word_in, word_of}};
+ghost use Rattle.template_names.specs.Merged.{merged};
 
 use span_event::{ArgValue, Text};
 use span_ledger::NamedSpan;
 use std::alloc::{AllocError, Global};
+use template_names::merged;
 
 /// A column in which a span has a value of its own, and not one of its process or thread.
 #[derive(Debug, Drop, PartialEq, Eq)]
@@ -12,6 +14,10 @@ pub enum SpanColumn {
     Name,
     /// An argument, by its key.
     Argument(Text),
+    /// The name with templates merged.
+    MergedName,
+    /// An argument, which if it is a text has its templates merged.
+    MergedArgument(Text),
 }
 
 // Whether each label is just the name of its span.
@@ -77,8 +83,38 @@ fn put_word(
             out.push_str(separator)?;
             put_value(out, value)?;
         }
+        SpanColumn::MergedName => {
+            out.push_str(separator)?;
+            put_merged(out, span.name.as_str())?;
+        }
+        SpanColumn::MergedArgument(key) => {
+            let Some(value) = span.span.args.get(key.as_str()) else {
+                return Ok(false);
+            };
+            out.push_str(separator)?;
+            put_merged_value(out, value)?;
+        }
     }
     Ok(true)
+}
+
+fn put_merged_value(out: &mut String, value: &ArgValue) -> Result<(), AllocError>
+    ensures { OnOk result (string_bytes out.new ≡ string_bytes out.old ++ merged_word_of value.now) }
+{
+    match value {
+        ArgValue::Words(text) => put_merged(out, text.as_str()),
+        _ => put_value(out, value),
+    }
+}
+
+// Appends a text with templates merged.
+fn put_merged(out: &mut String, text: &str) -> Result<(), AllocError>
+    ensures { OnOk result (string_bytes out.new ≡ string_bytes out.old ++ merged text.now) }
+{
+    match merged(*out.allocator(), text)? {
+        Some(whole) => out.push_str(whole.as_str()),
+        None => out.push_str(text),
+    }
 }
 
 fn put_value(out: &mut String, value: &ArgValue) -> Result<(), AllocError>
