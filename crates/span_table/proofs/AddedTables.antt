@@ -3,7 +3,7 @@ use Rattle.std.specs.{List.{cons_option, list_any, Sorted.IsPermutation}, Option
 use Rattle.std.proofs.{Common.{◌≡◌, ℕ, ◌+◌, ◌||◌, List, [], ◌∷◌, ◌++◌, Option, Some, None, map, refl, sym, ap, ap₂, subst, ◌∙◌}, lemmas.{Grind.flat_map-append, List.{map-append, map-id, Sorted.{IsPermutation-map, list_any-IsPermutation, sum_by-IsPermutation}, Sums.{sum_by-append, sum_by-cons}}, Option.slice_get-map, Simd.map-map}}
 use Rattle.span_self_time.proofs.Mapped.{sum_by-map}
 use Rattle.span_keyed_tracks.proofs.{Keyed.has_key, SameKeys.step_keys}
-use Rattle.span_table.specs.{Thread, AsyncRow, Keyed, keys_in, steps_at, CountRow, accepted, async_rows, thread_keys, Timed, timed_spans, Adding.{AddingLosesNothing, DroppingAdds, OrderIsNothing, keyed_by, keyed_rows, picked}, Columns.{async_value_at, value_at}, KeyLaws.{key_cmp_total, key_cmp-same}, Keys.{TableKey, key_cmp}, Tables.{KeyedSums, Run, SpanTable, counts_of, counts_together, keyed_async, keyed_span, row_of, rows_of, run_sums, sums_together, table_of, thread_sums}, declared.{column.Column.Column, counts.TableCounts.TableCounts, of.Of.{Of, TheVariants.{Spans, Async}}, sums.Sums.Sums, table.Row.Row}}
+use Rattle.span_table.specs.{Thread, AsyncRow, Keyed, keys_in, steps_at, CountRow, accepted, async_rows, thread_keys, Timed, timed_spans, thread_events, closed_spans, parent_of, Adding.{AddingLosesNothing, DroppingAdds, OrderIsNothing, keyed_by, keyed_rows, picked}, Columns.{async_value_at, value_at}, KeyLaws.{key_cmp_total, key_cmp-same}, Keys.{TableKey, key_cmp}, Tables.{KeyedSums, Run, SpanTable, called, counts_of, counts_together, keyed_async, keyed_span, row_of, rows_of, run_sums, sums_of, sums_together, table_of, thread_sums}, declared.{column.Column.Column, counts.TableCounts.TableCounts, of.Of.{Of, TheVariants.{Spans, Async}}, sums.Sums.Sums, table.Row.Row}}
 use Rattle.span_table.proofs.{Alike.{AddUpAlike, AddUpAlike-append, AddUpAlike-flat_map, AddUpAlike-grouped, AddUpAlike-refl, has_key-append, summed-alike}, Tallies.{made_of, sums-same, tally, tally-append, under}}
 
 -- sums that add up alike give the same rows
@@ -103,8 +103,9 @@ picked-map {A = A} f xs (p ∷ ps) = ap₂ cons_option (slice_get-map f xs p) (p
 module _ (places : List ℕ) (columns : List Column) where
   thread_picked : (run : Run) (thread : Thread) → map (under (picked places)) (thread_sums columns run thread) ≡ thread_sums (picked places columns) run thread
   thread_picked run thread =
-      map-map (under (picked places)) (keyed_span columns run thread) (timed_spans run.journal thread)
-      ∙ (λ i. map (λ (t : Timed). record { key = picked-map (value_at run thread t.span.name t.span.args) columns places i; step = (keyed_span columns run thread t).step }) (timed_spans run.journal thread))
+      let spans = closed_spans (thread_events thread run.journal) in
+      map-map (under (picked places)) (keyed_span columns run thread spans) (timed_spans run.journal thread)
+      ∙ (λ i. map (λ (t : Timed). record { key = picked-map (value_at run thread (called t.span) (option_map called (parent_of spans t.span))) columns places i; step = sums_of t }) (timed_spans run.journal thread))
 
   run_picked : (of : Of) (run : Run) → map (under (picked places)) (run_sums of columns run) ≡ run_sums of (picked places columns) run
   run_picked Spans run =

@@ -74,9 +74,9 @@ module _ (run : Run) (thread : Thread) where
   steps-rows [] = refl
   steps-rows (row ∷ rows) = ap (λ l. sums_of_row row ∷ l) (steps-rows rows)
 
-  steps-spans : (spans : List Timed) → steps_at key_cmp [] (map (keyed_span [] run thread) spans) ≡ map sums_of spans
-  steps-spans [] = refl
-  steps-spans (span ∷ spans) = ap (λ l. sums_of span ∷ l) (steps-spans spans)
+  steps-spans : (spans : List (Span Bytes)) (timed : List Timed) → steps_at key_cmp [] (map (keyed_span [] run thread spans) timed) ≡ map sums_of timed
+  steps-spans spans [] = refl
+  steps-spans spans (t ∷ timed) = ap (λ l. sums_of t ∷ l) (steps-spans spans timed)
 
   -- the self times of a thread's rows are those of its spans
   self_times-rows : AreSpans (closed_spans (thread_events thread run.journal)) → sum_by (λ (row : SpanRow). row.self_time) (rows_of thread) ≡ busy_time (closed_spans (thread_events thread run.journal))
@@ -85,7 +85,7 @@ module _ (run : Run) (thread : Thread) where
       let of_sums = λ (s : Sums). s.self_time in
       sym (ap (sum_by of_sums) (steps-rows (rows_of thread)) ∙ sum_by-map of_sums sums_of_row (rows_of thread))
       ∙ ap (λ (s : Sums). s.self_time) ((thread-alike [] run refl thread).sums [])
-      ∙ ap (sum_by of_sums) (steps-spans (timed_spans run.journal thread)) ∙ sum_by-map of_sums sums_of (timed_spans run.journal thread)
+      ∙ ap (sum_by of_sums) (steps-spans spans (timed_spans run.journal thread)) ∙ sum_by-map of_sums sums_of (timed_spans run.journal thread)
       ∙ sum_by-map (λ (t : Timed). t.self_time) (timed_in spans) spans ∙ sum_by-self_time spans are
 
 -- where the closed spans of a thread are spans, the self times of its rows add up to its busy time

@@ -1,29 +1,31 @@
--- By columns of which none is an argument, the rows of names add up as their spans do.
-use Rattle.std.specs.{Cmp.Lexicographic.{nat_list_cmp_total, texts_ties}, List.list_any, Ordering.is_eq, Prelude.{filter, flat_map, sum_by}}
-use Rattle.std.proofs.{Common.{◌≡◌, ℕ, ◌+◌, Bool, true, false, ◌||◌, cond, List, [], ◌∷◌, ◌++◌, length, map, refl, sym, ap, ap₂, subst, ◌∙◌, arith}, lemmas.List.{map-append, Sums.sum_by-cons}}
+-- By columns of which none asks a span for more than its name, the rows of names add up as their spans do.
+use Rattle.std.specs.{Cmp.Lexicographic.{nat_list_cmp_total, texts_ties}, List.list_any, Option.option_map, Ordering.is_eq, Prelude.{filter, flat_map, sum_by}}
+use Rattle.std.proofs.{Common.{◌≡◌, ℕ, ◌+◌, Bool, true, false, ◌||◌, cond, List, [], ◌∷◌, ◌++◌, length, map, Option, None, refl, sym, ap, ap₂, subst, ◌∙◌, arith}, lemmas.List.{map-append, Sums.sum_by-cons}}
 use Rattle.span_event.proofs.Orders.{text_same}
 use Rattle.span_journal.proofs.Sorted.{map-map}
-use Rattle.span_table.specs.{Thread, Arguments, Bytes, same_text, text_cmp, Keyed, ascending, keys_in, steps_at, accepted, span_row, thread_keys, thread_span_rows, timed_in, thread_events, Span, named, closed_spans, Collected.{keyed_span_row, row_sums, sums_of_row}, Columns.{Run, Value, is_argument, value_at}, Keys.TableKey, Tables.{KeyedSums, keyed_span, span_sums, summed, sums_of, sums_together, thread_sums}, declared.{column.Column.{Column, TheVariants.{Pid, Tid, Process, Thread as OfThread, Name, File, Cat, Scope, Id, Argument}}, sums.Sums.Sums}}
+use Rattle.span_table.specs.{Thread, Bytes, same_text, text_cmp, Keyed, ascending, keys_in, steps_at, accepted, span_row, thread_keys, thread_span_rows, timed_in, thread_events, Span, named, closed_spans, parent_of, Collected.{asks_spans, keyed_span_row, named_alone, row_sums, sums_of_row}, Columns.{Called, Run, Value, value_at}, Keys.TableKey, Tables.{KeyedSums, called, keyed_span, span_sums, summed, sums_of, sums_together, thread_sums}, declared.{column.Column.{Column, TheVariants.{Pid, Tid, Process, Thread as OfThread, Name, File, Cat, Scope, Id, Argument, ParentName, ParentArgument}}, sums.Sums.Sums}}
 use Rattle.span_table.proofs.{Alike.{AddUpAlike, AddUpAlike-flat_map, AddUpAlike-grouped, summed-alike}, Tallies.{made_of, under}}
 
--- a column that is no argument doesn't ask for them
-value_at-no_argument : (run : Run) (thread : Thread) (name : Bytes) (args : Arguments) (column : Column) → is_argument column ≡ false → value_at run thread name args column ≡ value_at run thread name [] column
-value_at-no_argument run thread name args Pid h = refl
-value_at-no_argument run thread name args Tid h = refl
-value_at-no_argument run thread name args Process h = refl
-value_at-no_argument run thread name args OfThread h = refl
-value_at-no_argument run thread name args Name h = refl
-value_at-no_argument run thread name args File h = refl
-value_at-no_argument run thread name args Cat h = refl
-value_at-no_argument run thread name args Scope h = refl
-value_at-no_argument run thread name args Id h = refl
-value_at-no_argument run thread name args (Argument key) h = cc
+-- a column that asks a span for no more than its name has the value that one has of which nothing else is known
+value_at-named_alone : (run : Run) (thread : Thread) (span : Called) (parent : Option Called) (column : Column) → asks_spans column ≡ false → value_at run thread span parent column ≡ value_at run thread (named_alone span.name) None column
+value_at-named_alone run thread span parent Pid h = refl
+value_at-named_alone run thread span parent Tid h = refl
+value_at-named_alone run thread span parent Process h = refl
+value_at-named_alone run thread span parent OfThread h = refl
+value_at-named_alone run thread span parent Name h = refl
+value_at-named_alone run thread span parent File h = refl
+value_at-named_alone run thread span parent Cat h = refl
+value_at-named_alone run thread span parent Scope h = refl
+value_at-named_alone run thread span parent Id h = refl
+value_at-named_alone run thread span parent (Argument key) h = cc
+value_at-named_alone run thread span parent ParentName h = cc
+value_at-named_alone run thread span parent (ParentArgument key) h = cc
 
-key-no_argument : (run : Run) (thread : Thread) (name : Bytes) (args : Arguments) (columns : List Column) → list_any is_argument columns ≡ false → map (value_at run thread name args) columns ≡ map (value_at run thread name []) columns
-key-no_argument run thread name args [] h = refl
-key-no_argument run thread name args (column ∷ columns) h =
-    let both = both_false (is_argument column) (list_any is_argument columns) h in
-    ap₂ (λ (v : Value) l. v ∷ l) (value_at-no_argument run thread name args column both.0) (key-no_argument run thread name args columns both.1)
+key-named_alone : (run : Run) (thread : Thread) (span : Called) (parent : Option Called) (columns : List Column) → list_any asks_spans columns ≡ false → map (value_at run thread span parent) columns ≡ map (value_at run thread (named_alone span.name) None) columns
+key-named_alone run thread span parent [] h = refl
+key-named_alone run thread span parent (column ∷ columns) h =
+    let both = both_false (asks_spans column) (list_any asks_spans columns) h in
+    ap₂ (λ (v : Value) l. v ∷ l) (value_at-named_alone run thread span parent column both.0) (key-named_alone run thread span parent columns both.1)
   where
     both_false : (a b : Bool) → (a || b) ≡ false → (a ≡ false) × (b ≡ false)
     both_false true b h = cc
@@ -79,13 +81,13 @@ module _ (spans : List (Span Bytes)) where
       one : (f : Sums → ℕ) → sum_by f (steps_at text_cmp name (map of_span spans)) ≡ sum_by (λ s. f (sums_of (timed_in spans s))) (named same_text name spans)
       one f = ap (sum_by f) (steps-named name spans) ∙ sum_by-map f (λ s. sums_of (timed_in spans s)) (named same_text name spans)
 
-module _ (columns : List Column) (run : Run) (no_arguments : list_any is_argument columns ≡ false) where
+module _ (columns : List Column) (run : Run) (asks_none : list_any asks_spans columns ≡ false) where
   module _ (thread : Thread) where
     abbrev spans : List (Span Bytes)
     spans = closed_spans (thread_events thread run.journal)
 
     abbrev name_key : Bytes → TableKey
-    name_key name = map (value_at run thread name []) columns
+    name_key name = map (value_at run thread (named_alone name) None) columns
 
     -- what the spans of a name come to
     abbrev of_name : Bytes → Sums
@@ -98,10 +100,10 @@ module _ (columns : List Column) (run : Run) (no_arguments : list_any is_argumen
     names-are : ascending text_cmp (map (λ (s : Span Bytes). s.name) spans) ≡ keys_in text_cmp (map (of_span spans) spans)
     names-are = ap (ascending text_cmp) (sym (map-map (λ (e : Keyed Bytes Sums). e.key) (of_span spans) spans))
 
-    spans-under : (xs : List (Span Bytes)) → map (under name_key) (map (of_span spans) xs) ≡ map (keyed_span columns run thread) (map (timed_in spans) xs)
+    spans-under : (xs : List (Span Bytes)) → map (under name_key) (map (of_span spans) xs) ≡ map (keyed_span columns run thread spans) (map (timed_in spans) xs)
     spans-under [] = refl
     spans-under (s ∷ xs) =
-        ap₂ (λ (k : TableKey) (l : KeyedSums). record { key = k; step = sums_of (timed_in spans s) } ∷ l) (sym (key-no_argument run thread s.name s.args columns no_arguments)) (spans-under xs)
+        ap₂ (λ (k : TableKey) (l : KeyedSums). record { key = k; step = sums_of (timed_in spans s) } ∷ l) (sym (key-named_alone run thread (called s) (option_map called (parent_of spans s)) columns asks_none)) (spans-under xs)
 
     -- the rows of a thread's names add up as its spans do
     pub thread-alike : AddUpAlike (map (keyed_span_row columns run) (thread_span_rows run.journal thread)) (thread_sums columns run thread)

@@ -7,6 +7,7 @@ pub mod Kept
 pub mod KeyPlaces
 pub mod Merged
 pub mod OwnRows
+pub mod Parents
 pub mod Rows
 pub mod SameTables
 pub mod Searched

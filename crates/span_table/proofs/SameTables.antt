@@ -1,23 +1,26 @@
 -- The table of runs follows from their counts, and from the acts on each process.
 use Rattle.std.specs.{Option.option_map, Ordering.int_eq, Prelude.flat_map}
-use Rattle.std.proofs.{Common.{◌≡◌, ℕ, List, [], ◌∷◌, ◌++◌, map, refl, sym, ap, ◌∙◌, ◌&&◌, ◌||◌, int_lt, Some, None}, lemmas.{List.map-id, Simd.map-map}}
+use Rattle.std.proofs.{Common.{◌≡◌, ℕ, List, [], ◌∷◌, ◌++◌, map, refl, sym, ap, ◌∙◌, ◌&&◌, ◌||◌, int_lt, Option, Some, None}, lemmas.{List.map-id, Simd.map-map}}
 use Rattle.span_self_time.proofs.Mapped.{self_time-map}
 use Rattle.span_track.proofs.Threads.Renumbering.{closed_spans-renumbered}
 use Rattle.span_journal.proofs.Topics.{Rows.{rows-follow, values-follow}, Threads.thread_events-alike}
-use Rattle.span_table.specs.{Words, Thread, Arguments, Bytes, Entry, ThreadRow, accepted, AsyncRow, AsyncKey, Names, thread_keys, thread_row, Timed, timed_in, with_self_times, thread_events, of_process, Rises, renumbered_span, Span, length_of, outranks, closed_spans, Columns.{async_value_at, value_at}, Laws.{AreAlikeRuns, AreAllAlike, TablesFollowFromActs}, Tables.{Run, counts_of, counts_together, keyed_span, rows_of, run_sums, sums_of_async, thread_sums}, declared.{column.Column.{Column, TheVariants.{Pid, Tid, Process, Thread as OfThread, Name, File, Cat, Scope, Id, Argument}}, of.Of.{Of, TheVariants.{Spans, Async}}}}
+use Rattle.span_table.proofs.Parents.{option_map-map, parent_of-map}
+use Rattle.span_table.specs.{Words, Thread, Bytes, Entry, ThreadRow, accepted, AsyncRow, AsyncKey, Names, thread_keys, thread_row, Timed, timed_in, with_self_times, thread_events, of_process, Rises, renumbered_span, Span, length_of, outranks, closed_spans, parent_of, Columns.{Called, async_value_at, value_at}, Laws.{AreAlikeRuns, AreAllAlike, TablesFollowFromActs}, Tables.{Run, counts_of, called, counts_together, keyed_span, rows_of, run_sums, sums_of_async, thread_sums}, declared.{column.Column.{Column, TheVariants.{Pid, Tid, Process, Thread as OfThread, Name, File, Cat, Scope, Id, Argument, ParentName, ParentArgument}}, of.Of.{Of, TheVariants.{Spans, Async}}}}
 
 module _ (run other : Run) (alike : AreAlikeRuns run other) where
-  value_at-alike : (thread : Thread) (name : Bytes) (args : Arguments) (column : Column) → value_at run thread name args column ≡ value_at other thread name args column
-  value_at-alike thread name args Pid = refl
-  value_at-alike thread name args Tid = refl
-  value_at-alike thread name args Process = ap (λ (n : Names). option_map Words n.name) ((values-follow (of_process thread.pid) run.journal other.journal (alike.journals.acts (of_process thread.pid))).names None)
-  value_at-alike thread name args OfThread = ap (λ (n : Names). option_map Words n.name) ((values-follow (of_process thread.pid) run.journal other.journal (alike.journals.acts (of_process thread.pid))).names (Some thread.tid))
-  value_at-alike thread name args Name = refl
-  value_at-alike thread name args File = ap (option_map Words) alike.file
-  value_at-alike thread name args Cat = refl
-  value_at-alike thread name args Scope = refl
-  value_at-alike thread name args Id = refl
-  value_at-alike thread name args (Argument key) = refl
+  value_at-alike : (thread : Thread) (span : Called) (parent : Option Called) (column : Column) → value_at run thread span parent column ≡ value_at other thread span parent column
+  value_at-alike thread span parent Pid = refl
+  value_at-alike thread span parent Tid = refl
+  value_at-alike thread span parent Process = ap (λ (n : Names). option_map Words n.name) ((values-follow (of_process thread.pid) run.journal other.journal (alike.journals.acts (of_process thread.pid))).names None)
+  value_at-alike thread span parent OfThread = ap (λ (n : Names). option_map Words n.name) ((values-follow (of_process thread.pid) run.journal other.journal (alike.journals.acts (of_process thread.pid))).names (Some thread.tid))
+  value_at-alike thread span parent Name = refl
+  value_at-alike thread span parent File = ap (option_map Words) alike.file
+  value_at-alike thread span parent Cat = refl
+  value_at-alike thread span parent Scope = refl
+  value_at-alike thread span parent Id = refl
+  value_at-alike thread span parent (Argument key) = refl
+  value_at-alike thread span parent ParentName = refl
+  value_at-alike thread span parent (ParentArgument key) = refl
 
   async_value_at-alike : (key : AsyncKey) (column : Column) → async_value_at run key column ≡ async_value_at other key column
   async_value_at-alike key File = ap (option_map Words) alike.file
@@ -30,6 +33,8 @@ module _ (run other : Run) (alike : AreAlikeRuns run other) where
   async_value_at-alike key Process = refl
   async_value_at-alike key OfThread = refl
   async_value_at-alike key (Argument name) = refl
+  async_value_at-alike key ParentName = refl
+  async_value_at-alike key (ParentArgument name) = refl
 
   thread_keys-alike : thread_keys (accepted run.journal) ≡ thread_keys (accepted other.journal)
   thread_keys-alike =
@@ -41,12 +46,13 @@ module _ (run other : Run) (alike : AreAlikeRuns run other) where
   module _ (columns : List Column) where
     -- of the positions of spans only the order counts
     spans-renumbered : (thread : Thread) (f : ℕ → ℕ) → Rises f → (spans : List (Span Bytes)) →
-        map (keyed_span columns other thread) (with_self_times (map (renumbered_span f) spans)) ≡ map (keyed_span columns other thread) (with_self_times spans)
+        map (keyed_span columns other thread (map (renumbered_span f) spans)) (with_self_times (map (renumbered_span f) spans)) ≡ map (keyed_span columns other thread spans) (with_self_times spans)
     spans-renumbered thread f rises spans =
-        map-map (keyed_span columns other thread) (timed_in (map (renumbered_span f) spans)) (map (renumbered_span f) spans)
-        ∙ map-map (λ s. keyed_span columns other thread (timed_in (map (renumbered_span f) spans) s)) (renumbered_span f) spans
-        ∙ (λ i. map (λ s. record { key = map (value_at other thread s.name s.args) columns; step = record { count = 1; total = length_of s; self_time = same s i; unclosed = 0; points = 0 } }) spans)
-        ∙ sym (map-map (keyed_span columns other thread) (timed_in spans) spans)
+        let renumbered = map (renumbered_span f) spans in
+        map-map (keyed_span columns other thread renumbered) (timed_in renumbered) renumbered
+        ∙ map-map (λ s. keyed_span columns other thread renumbered (timed_in renumbered s)) (renumbered_span f) spans
+        ∙ (λ i. map (λ s. record { key = map (value_at other thread (called s) (parent s i)) columns; step = record { count = 1; total = length_of s; self_time = same s i; unclosed = 0; points = 0 } }) spans)
+        ∙ sym (map-map (keyed_span columns other thread spans) (timed_in spans) spans)
       where
         ranks : (a b : Span Bytes) → outranks (renumbered_span f a) (renumbered_span f b) ≡ outranks a b
         ranks a b = ap (λ later. int_lt b.start a.start || (int_eq a.start b.start && (int_lt a.until b.until || (int_eq a.until b.until && later)))) (rises b.at a.at)
@@ -54,12 +60,15 @@ module _ (run other : Run) (alike : AreAlikeRuns run other) where
         same : (s : Span Bytes) → (timed_in (map (renumbered_span f) spans) (renumbered_span f s)).self_time ≡ (timed_in spans s).self_time
         same s = self_time-map (renumbered_span f) (λ s. refl) (λ s. refl) ranks spans s
 
+        parent : (s : Span Bytes) → option_map called (parent_of (map (renumbered_span f) spans) (renumbered_span f s)) ≡ option_map called (parent_of spans s)
+        parent s = ap (option_map called) (parent_of-map (renumbered_span f) (λ s. refl) (λ s. refl) ranks spans s) ∙ option_map-map called (renumbered_span f) (parent_of spans s)
+
     thread_sums-alike : (thread : Thread) → thread_sums columns run thread ≡ thread_sums columns other thread
     thread_sums-alike thread =
-        (λ i. map (λ (t : Timed). record { key = map (λ column. value_at-alike thread t.span.name t.span.args column i) columns; step = record { count = 1; total = length_of t.span; self_time = t.self_time; unclosed = 0; points = 0 } })
+        (λ i. map (λ (t : Timed). record { key = map (λ column. value_at-alike thread (called t.span) (option_map called (parent_of (closed_spans (thread_events thread run.journal)) t.span)) column i) columns; step = record { count = 1; total = length_of t.span; self_time = t.self_time; unclosed = 0; points = 0 } })
         (with_self_times (closed_spans (thread_events thread run.journal))))
-        ∙ thread_events-alike thread (λ es. map (keyed_span columns other thread) (with_self_times (closed_spans es)))
-        (λ f rises es. ap (λ spans. map (keyed_span columns other thread) (with_self_times spans)) (closed_spans-renumbered f es) ∙ spans-renumbered thread f rises (closed_spans es))
+        ∙ thread_events-alike thread (λ es. map (keyed_span columns other thread (closed_spans es)) (with_self_times (closed_spans es)))
+        (λ f rises es. ap (λ spans. map (keyed_span columns other thread spans) (with_self_times spans)) (closed_spans-renumbered f es) ∙ spans-renumbered thread f rises (closed_spans es))
         run.journal other.journal (alike.journals.acts (of_process thread.pid))
 
     run_sums-alike : (of : Of) → run_sums of columns run ≡ run_sums of columns other

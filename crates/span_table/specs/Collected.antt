@@ -1,6 +1,6 @@
 -- How the sums of a table are collected: row by row of a ledger's names or asynchronous keys, or span by span.
-use Rattle.std.specs.{Map.lookup, Ordering.eq_by_cmp, Prelude.{◌≡◌, ℕ, ◌+◌, List, [], ◌++◌, map, slice_get, Option, Some, None}}
-use Rattle.span_table.specs.{Keyed, SpanRow, thread_of_span, span_rows, Columns.{Run, value_at}, Keys.{TableKey, key_cmp}, Tables.{KeyedSums, SumsByKey, summed}, declared.{column.Column.Column, sums.Sums.Sums}}
+use Rattle.std.specs.{List.list_any, Map.lookup, Option.option_and_then, Ordering.eq_by_cmp, Prelude.{◌≡◌, ◌||◌, ℕ, ◌+◌, Bool, true, List, [], ◌++◌, map, slice_get, Option, Some, None}}
+use Rattle.span_table.specs.{Bytes, Keyed, Span, SpanRow, parent_of, thread_of_span, span_rows, Columns.{Called, Run, is_argument, is_of_parent, value_at}, Keys.{TableKey, key_cmp}, Tables.{KeyedSums, SumsByKey, summed}, declared.{column.Column.Column, sums.Sums.Sums}}
 
 -- the sums of a row
 abbrev pub sums_of_row : SpanRow → Sums
@@ -20,9 +20,29 @@ with_sums a b = record {
 pub record Takes (old new : SumsByKey) (more : KeyedSums) : Type 0 where
   pub sums : (sums : KeyedSums) → old ≡ summed sums → new ≡ summed (sums ++ more)
 
+-- the column asks a span for more than its name
+abbrev pub asks_spans : Column → Bool
+asks_spans column = is_argument column || is_of_parent column
+
+-- the span at a place, if there is one
+abbrev pub span_at : List (Span Bytes) → Option ℕ → Option (Span Bytes)
+span_at spans place = option_and_then (slice_get spans) place
+
+-- what stands at a place of some places, if there is one
+abbrev pub place_at : List (Option ℕ) → ℕ → Option ℕ
+place_at places at = option_and_then (λ place. place) (slice_get places at)
+
+-- the places are those of the parents of the spans, if a column asks for them
+abbrev pub KnowParents : List Column → List (Span Bytes) → List (Option ℕ) → Type 0
+KnowParents columns spans places = list_any is_of_parent columns ≡ true → map (span_at spans) places ≡ map (parent_of spans) spans
+
+-- what has this name, and no arguments
+abbrev pub named_alone : Bytes → Called
+named_alone name = record { name = name; args = [] }
+
 -- a row of a thread's names, under the key that its spans have
 abbrev pub keyed_span_row : List Column → Run → SpanRow → Keyed TableKey Sums
-keyed_span_row columns run row = record { key = map (value_at run (thread_of_span row) row.name []) columns; step = sums_of_row row }
+keyed_span_row columns run row = record { key = map (value_at run (thread_of_span row) (named_alone row.name) None) columns; step = sums_of_row row }
 
 -- all of them
 abbrev pub row_sums : List Column → Run → KeyedSums

@@ -1,6 +1,6 @@
 -- The columns by which spans are summed, and the value that a span has in each.
-use Rattle.std.specs.{List.list_any, Option.option_map, Prelude.{ℕ, ◌==◌, nat_lt, Bool, true, false, not, ◌&&◌, ◌||◌, List, ◌++◌, length, Option, Some, None, codes}}
-use Rattle.span_table.specs.{ArgValue, Whole, Words, Thread, Arguments, value_of, Bytes, AsyncKey, Holder, Entry, names_of, with_home, declared.{column.Column.{Column, TheVariants.{Pid, Tid, Process, Thread as OfThread, Name, File, Cat, Scope, Id, Argument}}, of.Of.{Of, TheVariants.{Spans, Async}}}}
+use Rattle.std.specs.{List.list_any, Option.{option_and_then, option_map}, Prelude.{ℕ, ◌==◌, nat_lt, Bool, true, false, not, ◌&&◌, ◌||◌, List, ◌++◌, length, Option, Some, None, codes}}
+use Rattle.span_table.specs.{ArgValue, Whole, Words, Thread, Arguments, value_of, Bytes, AsyncKey, Holder, Entry, names_of, with_home, declared.{column.Column.{Column, TheVariants.{Pid, Tid, Process, Thread as OfThread, Name, File, Cat, Scope, Id, Argument, ParentName, ParentArgument}}, of.Of.{Of, TheVariants.{Spans, Async}}}}
 
 -- what one ledger holds once it is closed, the number of its files, how many of them were refused as a whole, and the name of its only
 -- file: None where it has not just one that has a name
@@ -21,16 +21,23 @@ Value = Option ArgValue
 abbrev pub holder_name : List Entry → Holder → Value
 holder_name journal holder = option_map Words (names_of journal holder).name
 
--- the value of a column at a closed span of a thread of a run, by the name and the arguments of the span
-abbrev pub value_at : Run → Thread → Bytes → Arguments → Column → Value
-value_at run thread name args Pid = Some (Whole thread.pid)
-value_at run thread name args Tid = Some (Whole thread.tid)
-value_at run thread name args Process = holder_name run.journal (thread.pid, None)
-value_at run thread name args OfThread = holder_name run.journal (thread.pid, Some thread.tid)
-value_at run thread name args Name = Some (Words name)
-value_at run thread name args File = option_map Words run.file
-value_at run thread name args (Argument key) = value_of key args
-value_at run thread name args column = None
+-- what a span is called: its name and its arguments
+pub record Called : Type 0 where
+  pub name : Bytes
+  pub args : Arguments
+
+-- the value of a column at a closed span of a thread of a run, by what it is called, and what its parent is, if it has one
+abbrev pub value_at : Run → Thread → Called → Option Called → Column → Value
+value_at run thread span parent Pid = Some (Whole thread.pid)
+value_at run thread span parent Tid = Some (Whole thread.tid)
+value_at run thread span parent Process = holder_name run.journal (thread.pid, None)
+value_at run thread span parent OfThread = holder_name run.journal (thread.pid, Some thread.tid)
+value_at run thread span parent Name = Some (Words span.name)
+value_at run thread span parent File = option_map Words run.file
+value_at run thread span parent (Argument key) = value_of key span.args
+value_at run thread span parent ParentName = option_map (λ (p : Called). Words p.name) parent
+value_at run thread span parent (ParentArgument key) = option_and_then (λ (p : Called). value_of key p.args) parent
+value_at run thread span parent column = None
 
 -- the value of a column at an asynchronous key of a run: its id has the process before it that it belongs to
 abbrev pub async_value_at : Run → AsyncKey → Column → Value
@@ -53,15 +60,27 @@ column_name Cat = codes "cat"
 column_name Scope = codes "scope"
 column_name Id = codes "id"
 column_name (Argument key) = codes "args." ++ key
+column_name ParentName = codes "parent.name"
+column_name (ParentArgument key) = codes "parent.args." ++ key
 
 -- the column is an argument
 abbrev pub is_argument : Column → Bool
 is_argument (Argument key) = true
 is_argument column = false
 
+-- the column is of the span's parent
+abbrev pub is_of_parent : Column → Bool
+is_of_parent ParentName = true
+is_of_parent (ParentArgument key) = true
+is_of_parent column = false
+
 -- an argument's key has a byte, and no comma
+abbrev pub is_key : Bytes → Bool
+is_key key = nat_lt 0 (length key) && not (list_any (λ byte. byte == 44) key)
+
 abbrev pub is_column : Column → Bool
-is_column (Argument key) = nat_lt 0 (length key) && not (list_any (λ byte. byte == 44) key)
+is_column (Argument key) = is_key key
+is_column (ParentArgument key) = is_key key
 is_column column = true
 
 -- only asynchronous spans have the column

@@ -1,6 +1,6 @@
 -- Tables: the closed spans of runs, or their asynchronous spans, summed by columns.
-use Rattle.std.specs.{List.Sorted.IsStrictlySortedBy, Prelude.{List, map, flat_map, sum_by}}
-use Rattle.span_table.specs.{Thread, AsyncRow, Keyed, entries_in, CountRow, accepted, async_rows, count_row, thread_keys, Timed, timed_spans, length_of, Columns.{async_value_at, value_at}, Keys.{TableKey, key_cmp}, declared.{column.Column.Column, counts.TableCounts.TableCounts, of.Of.{Of, TheVariants.{Spans, Async}}, sums.Sums.Sums, table.Row.Row}}
+use Rattle.std.specs.{List.Sorted.IsStrictlySortedBy, Option.option_map, Prelude.{List, map, flat_map, sum_by}}
+use Rattle.span_table.specs.{Thread, AsyncRow, Keyed, entries_in, CountRow, accepted, async_rows, count_row, thread_keys, Timed, timed_spans, thread_events, Bytes, Span, closed_spans, length_of, parent_of, Columns.{Called, async_value_at, value_at}, Keys.{TableKey, key_cmp}, declared.{column.Column.Column, counts.TableCounts.TableCounts, of.Of.{Of, TheVariants.{Spans, Async}}, sums.Sums.Sums, table.Row.Row}}
 pub use Rattle.span_table.specs.Columns.{Run}
 
 -- a closed span with its self time
@@ -25,13 +25,21 @@ sums_together sums = record {
 abbrev pub KeyedSums : Type 0
 KeyedSums = List (Keyed TableKey Sums)
 
+-- what a span is called
+abbrev pub called : Span Bytes → Called
+called s = record { name = s.name; args = s.args }
+
+-- the key that one of the spans of a thread has
+abbrev pub span_key : List Column → Run → Thread → List (Span Bytes) → Span Bytes → TableKey
+span_key columns run thread spans s = map (value_at run thread (called s) (option_map called (parent_of spans s))) columns
+
 -- a closed span of a thread, under its key
-abbrev pub keyed_span : List Column → Run → Thread → Timed → Keyed TableKey Sums
-keyed_span columns run thread t = record { key = map (value_at run thread t.span.name t.span.args) columns; step = sums_of t }
+abbrev pub keyed_span : List Column → Run → Thread → List (Span Bytes) → Timed → Keyed TableKey Sums
+keyed_span columns run thread spans t = record { key = span_key columns run thread spans t.span; step = sums_of t }
 
 -- the closed spans of a thread
 abbrev pub thread_sums : List Column → Run → Thread → KeyedSums
-thread_sums columns run thread = map (keyed_span columns run thread) (timed_spans run.journal thread)
+thread_sums columns run thread = map (keyed_span columns run thread (closed_spans (thread_events thread run.journal))) (timed_spans run.journal thread)
 
 -- those of all threads of a run
 abbrev pub span_sums : List Column → Run → KeyedSums

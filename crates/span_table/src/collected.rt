@@ -1,17 +1,19 @@
 //! Adds the sums of a run: from the rows of names or of asynchronous keys, or span by span where a column is an argument.
-ghost use Rattle.std.specs.{List.list_any, Prelude.{◌≡◌, ◌∷◌, [], map, IfOk, OnOk}};
-ghost use Rattle.span_table.specs.{distance, timed_spans, Collected.{Takes, keyed_span_row, row_sums}, Columns.{async_value_at, is_argument, value_at}, Tables.{async_sums, keyed_async, keyed_span, run_sums, span_sums, thread_sums}};
+ghost use Rattle.std.specs.{List.list_any, Option.option_map, Prelude.{◌≡◌, ◌∷◌, [], map, IfOk, OnOk}};
+ghost use Rattle.span_table.specs.{AreSpans, distance, spans_of, timed_spans, Collected.{KnowParents, Takes, asks_spans, keyed_span_row, place_at, row_sums, span_at}, Columns.{async_value_at, is_of_parent, value_at}, Tables.{async_sums, called, keyed_async, run_sums, span_sums, sums_of, thread_sums}};
 
 use crate::column::Column;
 use crate::groups::Groups;
 use crate::key::Key;
 use crate::of::Of;
 use crate::run::LedgerRun;
+use crate::seen::{CalledSpan, SeenSpan};
 use crate::sums::Sums;
-use span_event::{Args, Text, Thread};
+use span_event::{Args, Thread};
 use span_journal::SpanRow;
 use span_keyed_tracks::{AsyncKey, AsyncRow};
 use span_ledger::TimedSpan;
+use span_parents::parents;
 use std::alloc::{AllocError, Global};
 
 /// A run, and the columns by which it is summed.
@@ -39,26 +41,34 @@ impl<'r, 'a> RunColumns<'r, 'a> {
         ensures { OnOk result (Takes groups.old groups.new
             (span_sums self.now.columns.now self.now.run.now)) }
     {
-        if has_argument(self.columns) {
+        if ask_spans(self.columns) {
             return self.add_spans(groups);
         }
         self.add_rows(groups)
     }
 
-    // The sums of the rows of names, by columns of which none is an argument.
+    // The sums of the rows of names, by columns of which none asks a span for more than its name.
     fn add_rows(&self, groups: &mut Groups) -> Result<(), AllocError>
         ensures { OnOk result (Takes groups.old groups.new
             (row_sums self.now.columns.now self.now.run.now)) }
     {
         let run = self.run;
         let rows = run.ledger.span_rows(self.alloc)?;
+        let none = Args::empty(self.alloc);
         for row in &rows {
-            self.add_row(groups, row)?;
+            self.add_row(groups, row, &none)?;
         }
         Ok(())
     }
 
-    fn add_row(&self, groups: &mut Groups, row: &SpanRow) -> Result<(), AllocError>
+    // Adds a row, of whose spans no arguments are known.
+    fn add_row<'x>(
+        &self,
+        groups: &mut Groups,
+        row: &'x SpanRow,
+        none: &'x Args,
+    ) -> Result<(), AllocError>
+        requires { none.now ≡ [] }
         ensures { OnOk result (Takes groups.old groups.new
             (keyed_span_row self.now.columns.now self.now.run.now row.now ∷ [])) }
     {
@@ -66,7 +76,15 @@ impl<'r, 'a> RunColumns<'r, 'a> {
             pid: row.pid,
             tid: row.tid,
         };
-        let key = self.key_of(thread, &row.name, &Args::empty(self.alloc))?;
+        let seen = SeenSpan {
+            thread,
+            span: CalledSpan {
+                name: &row.name,
+                args: none,
+            },
+            parent: None,
+        };
+        let key = self.key_of(&seen)?;
         groups.add(key, Sums::of_row(row))
     }
 
@@ -113,35 +131,57 @@ impl<'r, 'a> RunColumns<'r, 'a> {
             (thread_sums self.now.columns.now self.now.run.now thread)) }
     {
         let spans = timed_spans(self.alloc, self.run, thread)?;
-        for span in &spans {
-            self.add_span(groups, thread, span)?;
+        let places = self.parents_of(&spans)?;
+        for (place, timed) in spans.iter().enumerate() {
+            let seen = SeenSpan {
+                thread,
+                span: CalledSpan::of(timed),
+                parent: parent_at(&spans, &places, place),
+            };
+            self.add_span(groups, &seen, timed)?;
         }
         Ok(())
+    }
+
+    // The places of the parents of the closed spans of a thread, if a column asks for them.
+    fn parents_of(&self, spans: &[TimedSpan]) -> Result<Vec<Option<usize>>, AllocError>
+        requires { AreSpans (spans_of spans.now) }
+        ensures { IfOk result (λ places.
+            KnowParents self.now.columns.now (spans_of spans.now) places.items) }
+    {
+        if ask_parents(self.columns) {
+            return parents(self.alloc, spans);
+        }
+        Ok(Vec::new(self.alloc))
     }
 
     fn add_span(
         &self,
         groups: &mut Groups,
-        thread: Thread,
+        seen: &SeenSpan,
         timed: &TimedSpan,
     ) -> Result<(), AllocError>
-        ensures { OnOk result (Takes groups.old groups.new
-            (keyed_span self.now.columns.now self.now.run.now thread timed.now ∷ [])) }
+        ensures { OnOk result (Takes groups.old groups.new (record {
+          key = map (value_at self.now.run.now seen.now.thread seen.now.span seen.now.parent)
+              self.now.columns.now;
+          step = sums_of timed.now;
+        } ∷ [])) }
     {
         let span = timed.span;
-        let key = self.key_of(thread, timed.name, &span.args)?;
+        let key = self.key_of(seen)?;
         let sums = Sums::of_span(length(span.start, span.until), timed.self_time);
         groups.add(key, sums)
     }
 
-    // The key of a span of a thread.
-    fn key_of(&self, thread: Thread, name: &Text, args: &Args) -> Result<Key, AllocError>
-        ensures { IfOk result (λ key.
-            key ≡ map (value_at self.now.run.now thread name.now args.now) self.now.columns.now) }
+    // The key of a span.
+    fn key_of(&self, seen: &SeenSpan) -> Result<Key, AllocError>
+        ensures { IfOk result (λ key. key
+            ≡ map (value_at self.now.run.now seen.now.thread seen.now.span seen.now.parent)
+            self.now.columns.now) }
     {
         let mut values = Vec::with_capacity(self.alloc, self.columns.len())?;
         for column in self.columns {
-            values.push(column.value(self.alloc, self.run, thread, name, args)?)?;
+            values.push(column.value(self.alloc, self.run, seen)?)?;
         }
         Ok(Key::of(values))
     }
@@ -159,10 +199,34 @@ impl<'r, 'a> RunColumns<'r, 'a> {
     }
 }
 
-fn has_argument(columns: &[Column]) -> bool
-    ensures { result ≡ list_any is_argument columns.now }
+fn ask_spans(columns: &[Column]) -> bool
+    ensures { result ≡ list_any asks_spans columns.now }
 {
-    columns.iter().any(|column| column.is_argument())
+    columns.iter().any(|column| column.asks_spans())
+}
+
+fn ask_parents(columns: &[Column]) -> bool
+    ensures { result ≡ list_any is_of_parent columns.now }
+{
+    columns.iter().any(|column| column.is_of_parent())
+}
+
+// The parent of the span at a place, where the places of parents are known and it has one.
+fn parent_at<'a>(
+    spans: &[TimedSpan<'a>],
+    places: &[Option<usize>],
+    place: usize,
+) -> Option<CalledSpan<'a>>
+    ensures { result ≡ option_map called
+        (span_at (spans_of spans.now) (place_at places.now place)) }
+{
+    match places.get(place) {
+        Some(Some(parent)) => match spans.get(*parent) {
+            Some(timed) => Some(CalledSpan::of(timed)),
+            None => None,
+        },
+        _ => None,
+    }
 }
 
 fn timed_spans<'a>(
@@ -170,7 +234,8 @@ fn timed_spans<'a>(
     run: &LedgerRun<'a>,
     thread: Thread,
 ) -> Result<Vec<TimedSpan<'a>>, AllocError>
-    ensures { IfOk result (λ spans. spans.items ≡ timed_spans run.now.journal thread) }
+    ensures spans { IfOk result (λ spans. spans.items ≡ timed_spans run.now.journal thread) }
+    ensures are { IfOk result (λ spans. AreSpans (spans_of spans.items)) }
 {
     run.ledger.timed_spans(alloc, thread.pid, thread.tid)
 }

@@ -1,15 +1,16 @@
 //! The columns by which spans are summed.
-ghost use Rattle.std.specs.Prelude.{◌≡◌, ◌≢◌, ◌<◌, [], ◌++◌, codes, length, option_copied, option_map, true, IfOk, IfSome, Some};
-ghost use Rattle.span_table.specs.{Words, Bytes, with_home, Columns.{async_value_at, column_name, goes_with, is_argument, is_column, is_of_all, is_of_async, value_at}, declared.column.Column.{Column, TheVariants.Argument}};
+ghost use Rattle.std.specs.Prelude.{◌≡◌, ◌≢◌, ◌<◌, [], ◌++◌, codes, length, option_and_then, option_copied, option_map, true, IfOk, IfSome, Some};
+ghost use Rattle.span_table.specs.{Words, Bytes, value_of, with_home, Collected.asks_spans, Columns.{Called, async_value_at, column_name, goes_with, is_column, is_of_all, is_of_async, is_of_parent, value_at}, declared.column.Column.{Column, TheVariants.{Argument, ParentArgument}}};
 
 use crate::of::Of;
 use crate::run::LedgerRun;
-use span_event::{ArgValue, Args, IdKey, Text, Thread};
+use crate::seen::{CalledSpan, SeenSpan};
+use span_event::{ArgValue, IdKey, Text};
 use span_keyed_tracks::AsyncKey;
 use std::alloc::{AllocError, Global};
 
-/// A column of a table. A process or a thread may have no name, a run not just one file with a name, and a span not the argument. Of
-/// the columns of spans an asynchronous one has a name and a file.
+/// A column of a table. A process or a thread may have no name, a run not just one file with a name, and a span not the argument or no
+/// parent. Of the columns of spans an asynchronous one has a name and a file.
 #[derive(Debug, Drop, PartialEq, Eq)]
 pub enum Column {
     Pid,
@@ -27,17 +28,22 @@ pub enum Column {
     Id,
     /// An argument of the span, by its key: `args.KEY`.
     Argument(Text),
+    /// The name of the span's parent: of the closed spans of its thread that hold it, the one that ranks above all others.
+    ParentName,
+    /// An argument of the span's parent, by its key: `parent.args.KEY`.
+    ParentArgument(Text),
 }
 
 impl Column {
-    /// The column of this name, as `name` gives it: `pid`, `tid`, `process`, `thread`, `name`, `file`, `cat`, `scope`, `id`, or
-    /// `args.KEY` with whatever KEY that is not empty. None where no column has the name.
+    /// The column of this name, as `name` gives it: `pid`, `tid`, `process`, `thread`, `name`, `file`, `cat`, `scope`, `id`,
+    /// `parent.name`, or `args.KEY` or `parent.args.KEY` with whatever KEY that is not empty. None where no column has the name.
     pub fn named(alloc: Global, name: &str) -> Result<Option<Column>, AllocError>
         ensures name { IfOk result (λ found.
             IfSome found (λ column. column_name column ≡ name.now)) }
         ensures found { IfOk result (λ found. (column : Column) → is_column column ≡ true
             → column_name column ≡ name.now → found ≡ Some column) }
         ensures key { IfOk result (λ found. found ≢ Some (Argument [])) }
+        ensures parent_key { IfOk result (λ found. found ≢ Some (ParentArgument [])) }
     {
         match name {
             "pid" => Ok(Some(Column::Pid)),
@@ -49,6 +55,7 @@ impl Column {
             "cat" => Ok(Some(Column::Cat)),
             "scope" => Ok(Some(Column::Scope)),
             "id" => Ok(Some(Column::Id)),
+            "parent.name" => Ok(Some(Column::ParentName)),
             _ => argument_named(alloc, name),
         }
     }
@@ -67,15 +74,21 @@ impl Column {
             Column::Cat => Text::of(alloc, "cat"),
             Column::Scope => Text::of(alloc, "scope"),
             Column::Id => Text::of(alloc, "id"),
+            Column::ParentName => Text::of(alloc, "parent.name"),
             Column::Argument(key) => {
                 let key = key.as_str();
                 let name = format!(in alloc; "args.{key}")?;
                 Text::of(alloc, name.as_str())
             }
+            Column::ParentArgument(key) => {
+                let key = key.as_str();
+                let name = format!(in alloc; "parent.args.{key}")?;
+                Text::of(alloc, name.as_str())
+            }
         }
     }
 
-    pub(crate) fn try_clone(&self, alloc: Global) -> Result<Column, AllocError>
+    pub fn try_clone(&self, alloc: Global) -> Result<Column, AllocError>
         ensures { IfOk result (λ copy. copy ≡ self.now) }
     {
         Ok(match self {
@@ -89,13 +102,22 @@ impl Column {
             Column::Scope => Column::Scope,
             Column::Id => Column::Id,
             Column::Argument(key) => Column::Argument(key.try_clone(alloc)?),
+            Column::ParentName => Column::ParentName,
+            Column::ParentArgument(key) => Column::ParentArgument(key.try_clone(alloc)?),
         })
     }
 
-    pub(crate) fn is_argument(&self) -> bool
-        ensures { result ≡ is_argument self.now }
+    /// Whether it asks a span for more than its name.
+    pub(crate) fn asks_spans(&self) -> bool
+        ensures { result ≡ asks_spans self.now }
     {
-        matches!(self, Column::Argument(_))
+        matches!(self, Column::Argument(_)) || self.is_of_parent()
+    }
+
+    pub(crate) fn is_of_parent(&self) -> bool
+        ensures { result ≡ is_of_parent self.now }
+    {
+        matches!(self, Column::ParentName | Column::ParentArgument(_))
     }
 
     /// Whether what a table sums has the column.
@@ -122,26 +144,27 @@ impl Column {
         matches!(self, Column::Name | Column::File)
     }
 
-    /// The value of the column at a closed span of a thread of a run, by the name and the arguments of the span. Texts are shared.
+    /// The value of the column at a closed span. Texts are shared.
     pub(crate) fn value(
         &self,
         alloc: Global,
         run: &LedgerRun,
-        thread: Thread,
-        name: &Text,
-        args: &Args,
+        seen: &SeenSpan,
     ) -> Result<Option<ArgValue>, AllocError>
-        ensures { IfOk result (λ value.
-            value ≡ value_at run.now thread name.now args.now self.now) }
+        ensures { IfOk result (λ value. value
+            ≡ value_at run.now seen.now.thread seen.now.span seen.now.parent self.now) }
     {
+        let thread = seen.thread;
         match self {
             Column::Pid => Ok(Some(ArgValue::Whole(thread.pid))),
             Column::Tid => Ok(Some(ArgValue::Whole(thread.tid))),
             Column::Process => words_of(alloc, run.ledger.process_name(thread.pid)),
             Column::Thread => words_of(alloc, run.ledger.thread_name(thread.pid, thread.tid)),
-            Column::Name => words_of(alloc, Some(name)),
+            Column::Name => words_of(alloc, Some(seen.span.name)),
             Column::File => words_of(alloc, run.file),
-            Column::Argument(key) => copy_of(alloc, args.get(key.as_str())),
+            Column::Argument(key) => copy_of(alloc, seen.span.args.get(key.as_str())),
+            Column::ParentName => name_of(alloc, seen.parent.as_ref()),
+            Column::ParentArgument(key) => argument_of(alloc, seen.parent.as_ref(), key),
             Column::Cat | Column::Scope | Column::Id => Ok(None),
         }
     }
@@ -162,8 +185,34 @@ impl Column {
             Column::Name => words_of(alloc, Some(&key.name)),
             Column::File => words_of(alloc, run.file),
             Column::Pid | Column::Tid | Column::Process | Column::Thread => Ok(None),
-            Column::Argument(_) => Ok(None),
+            Column::Argument(_) | Column::ParentName | Column::ParentArgument(_) => Ok(None),
         }
+    }
+}
+
+// The name of a parent, if there is one.
+fn name_of(alloc: Global, parent: Option<&CalledSpan>) -> Result<Option<ArgValue>, AllocError>
+    ensures { IfOk result (λ value. value
+        ≡ option_map (λ (p : Called). Words p.name) (option_copied parent.entry)) }
+{
+    match parent {
+        Some(parent) => words_of(alloc, Some(parent.name)),
+        None => Ok(None),
+    }
+}
+
+// The argument of a parent, if there is one that has it.
+fn argument_of(
+    alloc: Global,
+    parent: Option<&CalledSpan>,
+    key: &Text,
+) -> Result<Option<ArgValue>, AllocError>
+    ensures { IfOk result (λ value. value
+        ≡ option_and_then (λ (p : Called). value_of key.now p.args) (option_copied parent.entry)) }
+{
+    match parent {
+        Some(parent) => copy_of(alloc, parent.args.get(key.as_str())),
+        None => Ok(None),
     }
 }
 
@@ -183,12 +232,31 @@ fn argument_named(alloc: Global, name: &str) -> Result<Option<Column>, AllocErro
     ensures name { IfOk result (λ found. IfSome found (λ column. column_name column ≡ name.now)) }
     ensures found { IfOk result (λ found. (key : Bytes) → 0 < length key
         → codes "args." ++ key ≡ name.now → found ≡ Some (Argument key)) }
+    ensures found_parent { IfOk result (λ found. (key : Bytes) → 0 < length key
+        → codes "parent.args." ++ key ≡ name.now → found ≡ Some (ParentArgument key)) }
     ensures key { IfOk result (λ found. found ≢ Some (Argument [])) }
+    ensures parent_key { IfOk result (λ found. found ≢ Some (ParentArgument [])) }
 {
     match name.strip_prefix("args.") {
         Some(key) if !key.is_empty() => Ok(Some(Column::Argument(Text::of(alloc, key)?))),
-        _ => Ok(None),
+        _ => parent_argument_named(alloc, name),
     }
+}
+
+fn parent_argument_named(alloc: Global, name: &str) -> Result<Option<Column>, AllocError>
+    ensures name { IfOk result (λ found. IfSome found (λ column. column_name column ≡ name.now)) }
+    ensures found { IfOk result (λ found. (key : Bytes) → 0 < length key
+        → codes "parent.args." ++ key ≡ name.now → found ≡ Some (ParentArgument key)) }
+    ensures other { IfOk result (λ found. (key : Bytes) → found ≢ Some (Argument key)) }
+    ensures key { IfOk result (λ found. found ≢ Some (ParentArgument [])) }
+{
+    let Some(key) = name.strip_prefix("parent.args.") else {
+        return Ok(None);
+    };
+    if key.is_empty() {
+        return Ok(None);
+    }
+    Ok(Some(Column::ParentArgument(Text::of(alloc, key)?)))
 }
 
 fn words_of(alloc: Global, name: Option<&Text>) -> Result<Option<ArgValue>, AllocError>
@@ -201,10 +269,7 @@ fn words_of(alloc: Global, name: Option<&Text>) -> Result<Option<ArgValue>, Allo
 }
 
 /// The same value, if there is one.
-pub(crate) fn copy_of(
-    alloc: Global,
-    value: Option<&ArgValue>,
-) -> Result<Option<ArgValue>, AllocError>
+pub fn copy_of(alloc: Global, value: Option<&ArgValue>) -> Result<Option<ArgValue>, AllocError>
     ensures { IfOk result (λ copy. copy ≡ option_copied value.entry) }
 {
     match value {

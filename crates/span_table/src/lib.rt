@@ -12,12 +12,13 @@ mod number;
 mod of;
 mod row_search;
 mod run;
+mod seen;
 mod sums;
 mod table;
 mod table_sum;
 mod wide;
 
-pub use column::{Column, copies_of};
+pub use column::{Column, copies_of, copy_of};
 pub use counts::{EntryCounts, TableCounts, counts_fit};
 pub use key::Key;
 pub use number::Number;

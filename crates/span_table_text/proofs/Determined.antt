@@ -2,7 +2,7 @@
 use Rattle.std.proofs.{Common.{◌≡◌, ◌≢◌, ℕ, ◌^◌, ◌<◌, ◌==◌, cond, true, List, [], ◌∷◌, ◌++◌, All, drop, flat_map, get_or, length, map, refl, sym, ap, subst, ◌∙◌, Some, None, append_assoc, arith, codes}, lemmas.{Fmt.{decimal_injective, signed_decimal_injective}, List.Elements.{All-head, All-tail, All-weaker}}}
 use Rattle.json.specs.{Lex.tokens, Print.print, Token.{Token, end_array, end_object, key}}
 use Rattle.span_table.specs.Numbers.{with_number}
-use Rattle.span_table_text.specs.{ArgValue, Nil, Flag, Whole, Words, Other, Bytes, Unit, Microseconds, Nanoseconds, Column, Pid, Tid, Process, Thread, Name, File, Cat, Scope, Id, Argument, TableCounts, Number, Of, Spans, Async, Sums, Row, column_name, counts_fit, fit, number_by, numbers_of, only, TableKey, SpanTable, Json.{json_line, text_of}, Printed.{AllFit, AreDistinct, HasOwn, IsOfArgument, IsPart, IsPrint, IsRowOf, IsTable, PartsAreDetermined}, Tokens.{columns_tokens, head_tokens, key_tokens, name_tokens, numbers_tokens, of_tokens, row_tokens, sums_tokens, unit_tokens, value_tokens}}
+use Rattle.span_table_text.specs.{ArgValue, Nil, Flag, Whole, Words, Other, Bytes, Unit, Microseconds, Nanoseconds, Column, Pid, Tid, Process, Thread, Name, File, Cat, Scope, Id, Argument, ParentName, ParentArgument, TableCounts, Number, Of, Spans, Async, Sums, Row, column_name, counts_fit, fit, number_by, numbers_of, only, TableKey, SpanTable, Json.{json_line, text_of}, Printed.{AllFit, AreDistinct, HasOwn, IsOfArgument, IsPart, IsPrint, IsRowOf, IsTable, PartsAreDetermined}, Tokens.{columns_tokens, head_tokens, key_tokens, name_tokens, numbers_tokens, of_tokens, row_tokens, sums_tokens, unit_tokens, value_tokens}}
 use Rattle.span_table_text.proofs.PrintedLines.{AreSmall, IsDetermined, IsDeterminedKey, IsLine, IsRowOf-determined, counts_small, json_head-print, json_line-print, number_by-small, numbers_fit-each, print_head-IsLine, print_row-IsLine, tokens-head, tokens-row}
 
 -- two texts are the same if their first lines are, and what follows these
@@ -23,7 +23,7 @@ column_called name =
     (cond (get_or name 0 0 == 102) File
     (cond (get_or name 0 0 == 105) Id
     (cond (get_or name 0 0 == 110) Name
-    (cond (get_or name 0 0 == 112) (cond (get_or name 1 0 == 105) Pid Process)
+    (cond (get_or name 0 0 == 112) (cond (get_or name 1 0 == 105) Pid (cond (get_or name 1 0 == 97) (cond (get_or name 7 0 == 110) ParentName (ParentArgument (drop 12 name))) Process))
     (cond (get_or name 0 0 == 115) Scope (cond (get_or name 1 0 == 105) Tid Thread)))))))
 
 column_called-name : (column : Column) → column_called (column_name column) ≡ column
@@ -38,6 +38,8 @@ column_called-name Cat = refl
 column_called-name Scope = refl
 column_called-name Id = refl
 column_called-name (Argument name) = refl
+column_called-name ParentName = refl
+column_called-name (ParentArgument name) = refl
 
 -- two columns with the same name are the same
 pub column_name-injective : (column other : Column) → column_name column ≡ column_name other → column ≡ other

@@ -5,7 +5,7 @@ use Rattle.json.specs.{Lex.tokens, Print.{ArePrintable, IsNumber, IsPrintable, b
 use Rattle.json.proofs.Printed.{Decimals.{IsNumber-decimal, IsNumber-signed_decimal}, Tokens.tokens-print}
 use Rattle.span_table.proofs.Summing.{sums_small}
 use Rattle.span_table.specs.declared.number.Number.TheVariants.{Closed, Count, Open, Points, SelfTime, Total}
-use Rattle.span_table_text.specs.{ArgValue, Nil, Flag, Whole, Words, Other, Bytes, Unit, Microseconds, Nanoseconds, Column, Pid, Tid, Process, Thread, Name, File, Cat, Scope, Id, Argument, TableCounts, Number, Of, Spans, Async, Sums, Row, Value, counts_fit, fit, number_by, numbers_of, TableKey, SpanTable, Json.{json_head, json_line, numbers_fit}, Printed.{HasOwn, IsKeyOf, IsOfArgument, IsRowOf, KeyFits, MayHave}, Tokens.{columns_tokens, entry_counts_tokens, head_tokens, key_tokens, name_tokens, numbers_tokens, of_tokens, row_tokens, sums_tokens, unit_tokens, value_tokens}}
+use Rattle.span_table_text.specs.{ArgValue, Nil, Flag, Whole, Words, Other, Bytes, Unit, Microseconds, Nanoseconds, Column, Pid, Tid, Process, Thread, Name, File, Cat, Scope, Id, Argument, ParentName, ParentArgument, TableCounts, Number, Of, Spans, Async, Sums, Row, Value, counts_fit, fit, number_by, numbers_of, TableKey, SpanTable, Json.{json_head, json_line, numbers_fit}, Printed.{HasOwn, IsKeyOf, IsOfArgument, IsRowOf, KeyFits, MayHave}, Tokens.{columns_tokens, entry_counts_tokens, head_tokens, key_tokens, name_tokens, numbers_tokens, of_tokens, row_tokens, sums_tokens, unit_tokens, value_tokens}}
 
 -- no line feed is among the bytes
 abbrev pub IsLine : Bytes → Type 0
@@ -206,6 +206,8 @@ whole_fits Cat whole h = absurd h
 whole_fits Scope whole h = absurd h
 whole_fits Id whole h = absurd h
 whole_fits (Argument name) whole h = h
+whole_fits ParentName whole h = absurd h
+whole_fits (ParentArgument name) whole h = h
 
 -- a value that a column may have, an argument may have
 pub IsOfArgument-any : (column : Column) (value : Value) → MayHave column value → IsOfArgument value

@@ -1,10 +1,10 @@
 -- The rows of a table of runs are those of what it sums, so what is printed of it can be read back.
-use Rattle.std.specs.{Cmp.{IsTotalOrder, eq_by_cmp_equiv}, List.{list_all, list_any}, Ordering.is_eq, declared.cmp.Ordering.Ordering}
+use Rattle.std.specs.{Prelude.⊤, Cmp.{IsTotalOrder, eq_by_cmp_equiv}, List.{list_all, list_any}, Ordering.is_eq, declared.cmp.Ordering.Ordering}
 use Rattle.std.proofs.{Common.{◌≡◌, ℕ, ◌+◌, ◌<◌, ◌==◌, Bool, true, false, cond, not, ◌&&◌, ◌||◌, List, [], ◌∷◌, All, Contains, filter, flat_map, get_or, is_some, length, map, sum_by, Option, Some, None, option_map, refl, sym, ap, ap₂, subst, ◌∙◌, arith}, lemmas.{Bool.{and_parts, eqb-true}, List.{length-map, Elements.{All-append, All-contains, All-contains_itself, All-filter, All-head, All-map, All-nil, All-tail, All-weaker}}, Map.Views.list_any-from_Contains}}
 use Rattle.span_event.specs.declared.thread.Thread.{Thread}
 use Rattle.span_keyed_tracks.proofs.{Keyed.has_key, SameKeys.{All-ascending, step_keys}, Uses.is_eq-turned}
 use Rattle.span_table.proofs.{Rows.RowsRise-rows_of, SomeAsync.async_rows-some, Tallies.{sum_by-both, tally, tally-cons}}
-use Rattle.span_table_text.specs.{Words, Arguments, Bytes, Unit, AsyncKey, Keyed, entry_of, keys_in, steps_at, accepted, async_rows, names_of, thread_keys, Timed, timed_spans, Column, Pid, Tid, Process, Thread as OfThread, Name, File, Cat, Scope, Id, Argument, Of, Spans, Async, Sums, Row, Run, async_value_at, goes_with, value_at, key_cmp_total, TableKey, key_cmp, KeyedSums, RowsRise, SpanTable, keyed_async, keyed_span, row_of, rows_of, run_sums, sums_together, table_of, thread_sums, Json.shown_table, Printed.{AllFit, AllIsPrinted, AreColumns, HasFile, HasOwn, HasSome, HaveFiles, IsKeyOf, IsOfLegal, IsName, IsOfArgument, IsPart, IsPrint, IsTable, IsWords, KeyFits, MayHave, PrintsAreParts}, Shown.{Wanted, is_wanted, key_has, wants_all}}
+use Rattle.span_table_text.specs.{Words, Bytes, Unit, AsyncKey, Keyed, entry_of, keys_in, steps_at, accepted, async_rows, names_of, thread_events, thread_keys, Timed, timed_spans, Span, closed_spans, parent_of, Called, called, Column, Pid, Tid, Process, Thread as OfThread, Name, File, Cat, Scope, Id, Argument, ParentName, ParentArgument, Of, Spans, Async, Sums, Row, Run, async_value_at, goes_with, value_at, key_cmp_total, TableKey, key_cmp, KeyedSums, RowsRise, SpanTable, keyed_async, keyed_span, row_of, rows_of, run_sums, sums_together, table_of, thread_sums, Json.shown_table, Printed.{AllFit, AllIsPrinted, AreColumns, HasFile, HasOwn, HasSome, HaveFiles, IsKeyOf, IsOfLegal, IsName, IsOfArgument, IsPart, IsPrint, IsTable, IsWords, KeyFits, MayHave, PrintsAreParts}, Shown.{Wanted, is_wanted, key_has, wants_all}}
 use Rattle.span_table_text.proofs.{Determined.{HasOwnNumbers, HasWholeKeys, prints-determined}, PrintedLines.numbers_fit-each, Ranked.filter-sorted}
 
 -- what holds of all that each gives holds of all that they give
@@ -68,14 +68,15 @@ All-none f adds es each = All-rows (λ row. f row.sums ≡ 0) es (λ k has. adds
 
 -- what everything has that a table sums of a run, under its key
 abbrev OfRun : Of → List Column → (Keyed TableKey Sums → Type 0) → Run → Type 0
-OfRun Spans columns P run = (thread : Thread) (t : Timed) → P (keyed_span columns run thread t)
+OfRun Spans columns P run = (thread : Thread) (spans : List (Span Bytes)) (t : Timed) → P (keyed_span columns run thread spans t)
 OfRun Async columns P run = All (λ row. P (keyed_async columns run row)) (async_rows run.journal)
 
 module _ (columns : List Column) (P : Keyed TableKey Sums → Type 0) where
-  All-thread : (run : Run) (thread : Thread) → ((t : Timed) → P (keyed_span columns run thread t)) → All P (thread_sums columns run thread)
+  All-thread : (run : Run) (thread : Thread) → ((spans : List (Span Bytes)) (t : Timed) → P (keyed_span columns run thread spans t)) → All P (thread_sums columns run thread)
   All-thread run thread each =
-      let spans = timed_spans run.journal thread in
-      All-map P (keyed_span columns run thread) spans (All-every (λ t. P (keyed_span columns run thread t)) each spans)
+      let spans = closed_spans (thread_events thread run.journal) in
+      let timed = timed_spans run.journal thread in
+      All-map P (keyed_span columns run thread spans) timed (All-every (λ t. P (keyed_span columns run thread spans t)) (each spans) timed)
 
   All-run : (of : Of) (run : Run) → OfRun of columns P run → All P (run_sums of columns run)
   All-run Spans run each =
@@ -98,9 +99,23 @@ words : (file : Option Bytes) → is_some file ≡ true → IsWords (option_map 
 words None some = absurd cc
 words (Some file) some = tt
 
--- a key that a table may have, if its numbers have 64 bits
+-- a key that a table may have, if its numbers have 64 bits: each value then is one that its column may have
 abbrev pub MayBeKey : List Column → TableKey → Type 0
-MayBeKey columns key = KeyFits columns key → IsKeyOf columns key
+MayBeKey [] [] = ⊤
+MayBeKey (column ∷ columns) (value ∷ key) = (IsOfArgument value → MayHave column value) × MayBeKey columns key
+MayBeKey columns key = ⊥
+
+IsKeyOf-fits : (columns : List Column) (key : TableKey) → MayBeKey columns key → KeyFits columns key → IsKeyOf columns key
+IsKeyOf-fits [] [] may fits = tt
+IsKeyOf-fits [] (value ∷ key) may fits = absurd may
+IsKeyOf-fits (column ∷ columns) [] may fits = absurd may
+IsKeyOf-fits (column ∷ columns) (value ∷ key) may fits = (may.0 fits.0, IsKeyOf-fits columns key may.1 fits.1)
+
+pub MayBeKey-is : (columns : List Column) (key : TableKey) → IsKeyOf columns key → MayBeKey columns key
+MayBeKey-is [] [] is = tt
+MayBeKey-is [] (value ∷ key) is = absurd is
+MayBeKey-is (column ∷ columns) [] is = absurd is
+MayBeKey-is (column ∷ columns) (value ∷ key) is = (λ fits. is.0, MayBeKey-is columns key is.1)
 
 -- sums under a key that a table by these columns may have, if the numbers of the key have 64 bits
 pub record Suits (of : Of) (columns : List Column) (sums : Keyed TableKey Sums) : Type 0 where
@@ -167,7 +182,7 @@ IsTable-fits table are has fits =
       columns = are;
       counts = numbers.0;
       few = fits.few;
-      rows = λ k d low. let row = has.each k d low in record { key = row.key (fits.keys k d low); own = row.own; some = row.some; fits = numbers.1 k d low };
+      rows = λ k d low. let row = has.each k d low in record { key = IsKeyOf-fits table.columns (get_or table.rows k d).key row.key (fits.keys k d low); own = row.own; some = row.some; fits = numbers.1 k d low };
       rise = has.rise;
     }
 
@@ -175,9 +190,13 @@ IsTable-fits table are has fits =
 pub IsPart-print : (unit : Unit) (text : Bytes) (table : SpanTable) → AreColumns table.of table.columns → HasRows table → IsPrint unit text table → IsPart unit text table
 IsPart-print unit text table are has print = record { is = IsTable-fits table are has print.fits; utf8 = print.utf8; printed = print.printed }
 
-module _ (run : Run) (thread : Thread) (name : Bytes) (args : Arguments) where
+called-IsName : (parent : Option Called) → IsName (option_map (λ (p : Called). Words p.name) parent)
+called-IsName None = tt
+called-IsName (Some p) = tt
+
+module _ (run : Run) (thread : Thread) (span : Called) (parent : Option Called) where
   -- a value that a span has in a column is one that the column may have, if a number has 64 bits
-  value_at-MayHave : (column : Column) → goes_with Spans column ≡ true → HasFile run column → IsOfArgument (value_at run thread name args column) → MayHave column (value_at run thread name args column)
+  value_at-MayHave : (column : Column) → goes_with Spans column ≡ true → HasFile run column → IsOfArgument (value_at run thread span parent column) → MayHave column (value_at run thread span parent column)
   value_at-MayHave Pid suited file fits = fits
   value_at-MayHave Tid suited file fits = fits
   value_at-MayHave Process suited file fits = named (names_of run.journal (thread.pid, None)).name
@@ -188,13 +207,15 @@ module _ (run : Run) (thread : Thread) (name : Bytes) (args : Arguments) where
   value_at-MayHave Scope suited file fits = absurd (cc suited)
   value_at-MayHave Id suited file fits = absurd (cc suited)
   value_at-MayHave (Argument key) suited file fits = fits
+  value_at-MayHave ParentName suited file fits = called-IsName parent
+  value_at-MayHave (ParentArgument key) suited file fits = fits
 
-  key-MayBeKey : (columns : List Column) → All (λ column. goes_with Spans column ≡ true) columns → All (HasFile run) columns → MayBeKey columns (map (value_at run thread name args) columns)
-  key-MayBeKey [] suited files fits = tt
-  key-MayBeKey (column ∷ columns) suited files fits =
+  key-MayBeKey : (columns : List Column) → All (λ column. goes_with Spans column ≡ true) columns → All (HasFile run) columns → MayBeKey columns (map (value_at run thread span parent) columns)
+  key-MayBeKey [] suited files = tt
+  key-MayBeKey (column ∷ columns) suited files =
       let goes = λ (c : Column). goes_with Spans c ≡ true in (
-        value_at-MayHave column (All-head goes column columns suited) (All-head (HasFile run) column columns files) fits.0,
-        key-MayBeKey columns (All-tail goes column columns suited) (All-tail (HasFile run) column columns files) fits.1,
+        value_at-MayHave column (All-head goes column columns suited) (All-head (HasFile run) column columns files),
+        key-MayBeKey columns (All-tail goes column columns suited) (All-tail (HasFile run) column columns files),
       )
 
 module _ (run : Run) (key : AsyncKey) where
@@ -210,28 +231,30 @@ module _ (run : Run) (key : AsyncKey) where
   async_value_at-MayHave Process suited file = absurd (cc suited)
   async_value_at-MayHave OfThread suited file = absurd (cc suited)
   async_value_at-MayHave (Argument name) suited file = absurd (cc suited)
+  async_value_at-MayHave ParentName suited file = absurd (cc suited)
+  async_value_at-MayHave (ParentArgument name) suited file = absurd (cc suited)
 
   async_key-MayBeKey : (columns : List Column) → All (λ column. goes_with Async column ≡ true) columns → All (HasFile run) columns → MayBeKey columns (map (async_value_at run key) columns)
-  async_key-MayBeKey [] suited files fits = tt
-  async_key-MayBeKey (column ∷ columns) suited files fits =
+  async_key-MayBeKey [] suited files = tt
+  async_key-MayBeKey (column ∷ columns) suited files =
       let goes = λ (c : Column). goes_with Async c ≡ true in (
-        async_value_at-MayHave column (All-head goes column columns suited) (All-head (HasFile run) column columns files),
-        async_key-MayBeKey columns (All-tail goes column columns suited) (All-tail (HasFile run) column columns files) fits.1,
+        λ fits. async_value_at-MayHave column (All-head goes column columns suited) (All-head (HasFile run) column columns files),
+        async_key-MayBeKey columns (All-tail goes column columns suited) (All-tail (HasFile run) column columns files),
       )
 
 module _ (columns : List Column) where
   -- each key of what is summed has a value for each column
   run-whole : (of : Of) (run : Run) → OfRun of columns (λ e. length e.key ≡ length columns) run
-  run-whole Spans run = λ thread t. length-map columns (value_at run thread t.span.name t.span.args)
+  run-whole Spans run = λ thread spans t. length-map columns (value_at run thread (called t.span) (option_map called (parent_of spans t.span)))
   run-whole Async run = λ k d low. length-map columns (async_value_at run (get_or (async_rows run.journal) k d).key)
 
   -- it has no numbers that are not its own
   run-own : (of : Of) (run : Run) → OfRun of columns (λ e. HasOwn of e.step) run
-  run-own Spans run = λ thread t. refl
+  run-own Spans run = λ thread spans t. refl
   run-own Async run = λ k d low. refl
 
   run-Suits : (of : Of) → All (λ column. goes_with of column ≡ true) columns → (run : Run) → All (HasFile run) columns → IsOfLegal run → OfRun of columns (Suits of columns) run
-  run-Suits Spans suited run files legal = λ thread t. record { key = key-MayBeKey run thread t.span.name t.span.args columns suited files; own = refl; some = omega arith }
+  run-Suits Spans suited run files legal = λ thread spans t. record { key = key-MayBeKey run thread (called t.span) (option_map called (parent_of spans t.span)) columns suited files; own = refl; some = omega arith }
   run-Suits Async suited run files legal =
       λ k d low. record {
         key = async_key-MayBeKey run (get_or (async_rows run.journal) k d).key columns suited files;
@@ -260,7 +283,7 @@ module _ (of : Of) (columns : List Column) (runs : List Run) where
   IsPart-table_of unit second text part is print =
       prints-determined unit second text part (table_of of columns runs) is print (table_of-HasWholeKeys columns runs of) (table_of-HasOwnNumbers columns runs of)
 
-  table_of-HasRows : AreColumns of columns → HaveFiles columns runs → All IsOfLegal runs → HasRows (table_of of columns runs)
+  pub table_of-HasRows : AreColumns of columns → HaveFiles columns runs → All IsOfLegal runs → HasRows (table_of of columns runs)
   table_of-HasRows are files legal = HasRows-rows_of (table_of of columns runs) (flat_map (run_sums of columns) runs) refl (runs-Suits columns runs of are.suited files legal)
 
 -- so what is printed of the rows that are shown of such runs is a part

@@ -1,6 +1,6 @@
 -- Tables that are printed as JSON Lines, and those whose text can be read back.
 use Rattle.std.specs.{Int.w64, Prelude.{◌≡◌, ◌≢◌, ◌<◌, ◌≤◌, ◌^◌, ◌+◌, Bool, true, List, [], ◌∷◌, All, is_some, length, map, Some, None, FitsSigned, ⊤}, Str.IsUtf8}
-use Rattle.span_table_text.specs.{Whole, Words, Bytes, IsLegal, Unit, Column, Pid, Tid, Process, Thread, Name, File, Cat, Scope, Id, Argument, Of, Spans, Async, Sums, Row, Run, Value, column_name, goes_with, is_column, counts_fit, fit, numbers_of, only, TableKey, RowsRise, SpanTable, add_tables, table_of, Json.{numbers_fit, shown_table, text_of}, Shown.{Wanted, wants_all}}
+use Rattle.span_table_text.specs.{Whole, Words, Bytes, IsLegal, Unit, Column, Pid, Tid, Process, Thread, Name, File, Cat, Scope, Id, Argument, ParentName, ParentArgument, Of, Spans, Async, Sums, Row, Run, Value, column_name, goes_with, is_column, counts_fit, fit, numbers_of, only, TableKey, RowsRise, SpanTable, add_tables, table_of, Json.{numbers_fit, shown_table, text_of}, Shown.{Wanted, wants_all}}
 
 -- a number, which has 64 bits
 abbrev pub IsWhole : Value → Type 0
@@ -11,7 +11,7 @@ abbrev pub IsWords : Value → Type 0
 IsWords (Some (Words text)) = ⊤
 IsWords value = ⊥
 
--- the name of a process or a thread, which may have none
+-- the name of a process or a thread, or of a parent, which may have none, or not be there
 abbrev pub IsName : Value → Type 0
 IsName None = ⊤
 IsName value = IsWords value
@@ -33,6 +33,8 @@ MayHave Cat value = IsWords value
 MayHave Scope value = IsWords value
 MayHave Id value = IsWords value
 MayHave (Argument key) value = IsOfArgument value
+MayHave ParentName value = IsName value
+MayHave (ParentArgument key) value = IsOfArgument value
 
 -- the numbers of a key have 64 bits, as far as there are columns
 abbrev pub KeyFits : List Column → TableKey → Type 0

@@ -1,17 +1,32 @@
-use Rattle.std.proofs.{Common.{◌∷◌, [], map, subst, ◌∙◌}, lemmas.List.map_push}
-use Rattle.span_table.specs.{Collected.Takes, Tables.keyed_span}
-use Rattle.span_table.proofs.Summing.{Takes-all, Takes-next}
+use Rattle.std.specs.{Option.option_map, Prelude.slice_get}
+use Rattle.std.proofs.{Common.{List, refl, ◌≡◌, ◌∷◌, [], map, Some, ap, ap₂, subst, sym, ◌∙◌}, lemmas.{List.map_push, Option.{slice_get-map, slice_get_read}}}
+use Rattle.span_table.specs.{Bytes, Keyed, Span, Timed, thread_events, closed_spans, spans_of, Collected.{KnowParents, Takes, place_at, span_at}, Columns.value_at, Keys.TableKey, Tables.{called, keyed_span, span_key, sums_of}, declared.sums.Sums.Sums}
+use Rattle.span_table.proofs.{Parents.{span_key-known, spans_of-timed}, Summing.{Takes-all, Takes-next}}
 use Rattle.span_table.proofs.collected.RunColumns.add_thread.Goals as goal
 
-pub loop-span-preserved : goal.loop-span-preserved
-loop-span-preserved c =
-    let make = keyed_span c.args.self.now.columns.now c.args.self.now.run.now c.args.thread in
-    Takes-next (map make) (λ span. make span ∷ []) (map_push make) c.deref-span-items.result.now c.args.groups.now c.loop-span.span-index c.span-item.result c.loop-span.groups c.add_span.new.groups
-    c.loop-span-test.true c.span-item.is c.loop-span.invariant c.in_ok-add_span.ensures
+pub loop-place-preserved : goal.loop-place-preserved
+loop-place-preserved c =
+    let columns = c.args.self.now.columns.now in
+    let run = c.args.self.now.run.now in
+    let thread = c.args.thread in
+    let closed = closed_spans (thread_events thread run.journal) in
+    let make = keyed_span columns run thread closed in
+    let place = c.loop-place.place in
+    let timed = c.timed-item.result in
+    let places = c.in_ok-places.places.items in
+    let are = ap spans_of c.in_ok-spans.ensures.spans ∙ spans_of-timed closed closed in
+    let here = sym (ap (λ (all : List (Span Bytes)). slice_get all place) (ap spans_of (c.deref-timed-items.ensures.value) ∙ are)) ∙ slice_get-map (λ (t : Timed). t.span) c.deref-timed-items.result.now place ∙ ap (option_map (λ (t : Timed). t.span)) (slice_get_read c.deref-timed-items.result.now _ place timed refl c.loop-place-test.true c.timed-item.is) in
+    let known = subst (λ all. KnowParents columns all places) (ap spans_of c.deref.ensures.value ∙ are) c.in_ok-places.ensures in
+    let parent = c.parent_at.ensures ∙ ap₂ (λ all at. option_map called (span_at all (place_at at place))) (ap spans_of c.deref-in-loop-place.ensures.value ∙ are) c.deref-in-loop-place-2.ensures.value in
+    let key = ap₂ (λ s p. map (value_at run thread s p) columns) c.of.ensures parent ∙ span_key-known columns run thread closed places place timed.span known here in
+    let taken = subst (λ (k : TableKey). Takes c.loop-place.groups c.add_span.new.groups (record { key = k; step = sums_of timed } ∷ [])) key c.in_ok-add_span.ensures in
+    Takes-next (map make) (λ t. make t ∷ []) (map_push make) c.deref-timed-items.result.now c.args.groups.now place timed c.loop-place.groups c.add_span.new.groups
+    c.loop-place-test.true c.timed-item.is c.loop-place.invariant taken
 
 pub returns : goal.returns
 returns c =
-    let make = keyed_span c.args.self.now.columns.now c.args.self.now.run.now c.args.thread in
-    let at = c.loop-span.span-index in
-    subst (λ items. Takes c.args.groups.now c.loop-span.groups (map make items)) (c.deref-span-items.ensures.value ∙ c.in_ok-spans.ensures)
-    (Takes-all (map make) (λ span. make span ∷ []) (map_push make) c.deref-span-items.result.now c.args.groups.now at c.loop-span.groups c.loop-span-test.false c.loop-span.invariant)
+    let run = c.args.self.now.run.now in
+    let make = keyed_span c.args.self.now.columns.now run c.args.thread (closed_spans (thread_events c.args.thread run.journal)) in
+    let place = c.loop-place.place in
+    subst (λ items. Takes c.args.groups.now c.loop-place.groups (map make items)) (c.deref-timed-items.ensures.value ∙ c.in_ok-spans.ensures.spans)
+    (Takes-all (map make) (λ t. make t ∷ []) (map_push make) c.deref-timed-items.result.now c.args.groups.now place c.loop-place.groups c.loop-place-test.false c.loop-place.invariant)
