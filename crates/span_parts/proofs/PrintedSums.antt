@@ -1,8 +1,8 @@
 -- What is printed of a sum of parts is a part.
 use Rattle.std.specs.{List.cons_option, Prelude.{All, slice_get}}
 use Rattle.std.proofs.{Common.{◌≡◌, ℕ, zero, suc, List, [], ◌∷◌, flat_map, map, refl, subst, sym}, lemmas.List.Elements.{All-cons, All-head, All-map, All-nil, All-tail}}
-use Rattle.span_table_text.proofs.RunTables.{All-flat_map, HasRows, HasRows-rows_of, HasRows-shown, IsPart-print, Suits, row_sums}
-use Rattle.span_parts.specs.{Bytes, Unit as TimeUnit, Column, Of, TableKey, add_tables, keyed_by, keyed_rows, picked, with_columns, IsKeyOf, IsPrint, IsPart, IsTable, SpanTable, shown_table, Sum.{AreParts, SumsAreParts}}
+use Rattle.span_table_text.proofs.RunTables.{All-flat_map, HasRows, HasRows-rows_of, HasRows-shown, IsPart-print, MayBeKey-is, Suits, row_sums}
+use Rattle.span_parts.specs.{Bytes, Unit as TimeUnit, Column, Of, TableKey, add_tables, keyed_by, keyed_rows, picked, with_columns, AreColumns, IsKeyOf, IsPrint, IsPart, IsTable, SpanTable, shown_table, Sum.{AreParts, PartSum, SumsAreParts, SumsParts}}
 
 -- a value that may be in its column, before a key
 cons-key : (columns : List Column) (key : TableKey) (place : ℕ) (more : List Column) (rest : TableKey) → IsKeyOf columns key → IsKeyOf more rest →
@@ -23,7 +23,7 @@ with_columns-HasRows : (places : List ℕ) (table : SpanTable) → IsTable table
 with_columns-HasRows places table is =
     HasRows-rows_of (with_columns places table) (map (keyed_by places) table.rows) refl
     (All-map (Suits table.of (picked places table.columns)) (keyed_by places) table.rows
-    (λ k d low. let row = is.rows k d low in record { key = λ fits. IsKeyOf-picked places table.columns _ row.key; own = row.own; some = row.some }))
+    (λ k d low. let row = is.rows k d low in record { key = MayBeKey-is (picked places table.columns) _ (IsKeyOf-picked places table.columns _ row.key); own = row.own; some = row.some }))
 
 module _ (unit : TimeUnit) (of : Of) (columns : List Column) (places : List ℕ) where
   -- the rows of the parts, by some of their columns
@@ -42,16 +42,18 @@ module _ (unit : TimeUnit) (of : Of) (columns : List Column) (places : List ℕ)
       (each-Suits texts parts are.1 (All-tail (λ (p : SpanTable). p.of ≡ of) part parts kinds) (All-tail (λ (p : SpanTable). p.columns ≡ columns) part parts same))
 
   -- so are those of their sum
-  sum-HasRows : (texts : List Bytes) (parts : List SpanTable) → AreParts unit texts parts → All (λ part. part.of ≡ of) parts → All (λ part. part.columns ≡ columns) parts →
+  added-HasRows : (texts : List Bytes) (parts : List SpanTable) → AreParts unit texts parts → All (λ part. part.of ≡ of) parts → All (λ part. part.columns ≡ columns) parts →
       HasRows (add_tables of (picked places columns) (map (with_columns places) parts))
-  sum-HasRows texts parts are kinds same =
+  added-HasRows texts parts are kinds same =
       let tables = map (with_columns places) parts in
       HasRows-rows_of (add_tables of (picked places columns) tables) (flat_map (λ (table : SpanTable). keyed_rows table.rows) tables) refl
       (All-flat_map (Suits of (picked places columns)) (λ (table : SpanTable). keyed_rows table.rows) tables (each-Suits texts parts are kinds same))
 
+-- a sum of parts has rows that a table may have
+pub sum-HasRows : (texts : List Bytes) (sum : PartSum) → SumsParts texts sum → HasRows sum.sum
+sum-HasRows texts sum sums = subst HasRows (sym sums.adds) (added-HasRows sum.unit sum.of sum.columns sum.places texts sums.parts sums.are sums.kinds sums.columns)
+
 pub sums-parts : SumsAreParts
 sums-parts texts sum wanted text sums are print =
-    let added = add_tables sum.of (picked sum.places sum.columns) (map (with_columns sum.places) sums.parts) in
-    let has = HasRows-shown wanted added (sum-HasRows sum.unit sum.of sum.columns sum.places texts sums.parts sums.are sums.kinds sums.columns) in
-    subst (λ (table : SpanTable). IsPart sum.unit text (shown_table wanted table)) (sym sums.adds)
-    (IsPart-print sum.unit text (shown_table wanted added) are has (subst (λ (table : SpanTable). IsPrint sum.unit text (shown_table wanted table)) sums.adds print))
+    let by = subst (λ (table : SpanTable). AreColumns table.of table.columns) (sym sums.adds) are in
+    IsPart-print sum.unit text (shown_table wanted sum.sum) by (HasRows-shown wanted sum.sum (sum-HasRows texts sum sums)) print

@@ -76,16 +76,16 @@ JoinsParts-added one other both is = record {
       };
 }
 
-pub TakesFirst-added : (of : Of) (unit : TimeUnit) (wanted columns : List Column) (places : List ℕ) (text : Bytes) (old new : SpanTable) → AreAt places (chosen wanted columns) columns → old ≡ add_tables of (chosen wanted columns) [] →
-    IsAdded of unit columns places text old new → TakesFirst wanted text (record { of = of; unit = unit; columns = columns; places = places; sum = new })
-TakesFirst-added of unit wanted columns places text old new at none added = record {
+pub TakesFirst-added : (of : Of) (unit : TimeUnit) (shown tested columns : List Column) (places : List ℕ) (text : Bytes) (old new : SpanTable) → AreAt places (chosen shown tested columns) columns → old ≡ add_tables of (chosen shown tested columns) [] →
+    IsAdded of unit columns places text old new → TakesFirst shown tested text (record { of = of; unit = unit; columns = columns; places = places; sum = new })
+TakesFirst-added of unit shown tested columns places text old new at none added = record {
   chooses = at;
   sums = record {
     parts = added.part ∷ [];
     are = (added.is, tt);
     kinds = All-cons (λ (part : SpanTable). part.of ≡ of) added.part [] added.kind (All-nil (λ (part : SpanTable). part.of ≡ of));
     columns = All-cons (λ (part : SpanTable). part.columns ≡ columns) added.part [] added.by (All-nil (λ (part : SpanTable). part.columns ≡ columns));
-    adds = added.sum ∙ added-more of (picked places columns) places [] old added.part (none ∙ ap (λ l. add_tables of l []) (sym (picked-at places (chosen wanted columns) columns at)));
+    adds = added.sum ∙ added-more of (picked places columns) places [] old added.part (none ∙ ap (λ l. add_tables of l []) (sym (picked-at places (chosen shown tested columns) columns at)));
   };
 }
 
@@ -98,12 +98,12 @@ PartFails-others of kind unit second own columns text OtherColumns differ fails 
 PartFails-others of kind unit second own columns text Memory differ fails = tt
 PartFails-others of kind unit second own columns text TooMany differ fails = tt
 
-pub FirstFails-others : (of : Of) (unit : TimeUnit) (wanted columns : List Column) (text : Bytes) (fault : PartFault) → ((places : List ℕ) → AreAt places (chosen wanted columns) columns → ⊥)
-    → RefusesOthers of unit columns text fault → FirstFails wanted text fault
-FirstFails-others of unit wanted columns text NotTable none fails = fails
-FirstFails-others of unit wanted columns text OtherColumns none fails = record { unit = unit; part = fails.part; is = fails.is; lacks = λ places at. none places (subst (λ l. AreAt places (chosen wanted l) l) fails.by at) }
-FirstFails-others of unit wanted columns text Memory none fails = tt
-FirstFails-others of unit wanted columns text TooMany none fails = tt
+pub FirstFails-others : (of : Of) (unit : TimeUnit) (shown tested columns : List Column) (text : Bytes) (fault : PartFault) → ((places : List ℕ) → AreAt places (chosen shown tested columns) columns → ⊥)
+    → RefusesOthers of unit columns text fault → FirstFails shown tested text fault
+FirstFails-others of unit shown tested columns text NotTable none fails = fails
+FirstFails-others of unit shown tested columns text OtherColumns none fails = record { unit = unit; part = fails.part; is = fails.is; lacks = λ places at. none places (subst (λ l. AreAt places (chosen shown tested l) l) fails.by at) }
+FirstFails-others of unit shown tested columns text Memory none fails = tt
+FirstFails-others of unit shown tested columns text TooMany none fails = tt
 
 -- what refuses a sum
 pub PartFails-sum : (of : Of) (unit : TimeUnit) (own : List Column) (text : Bytes) (fault : PartFault) → SumFails text fault → PartFails of unit own text fault
@@ -112,8 +112,8 @@ PartFails-sum of unit own text OtherColumns fails = absurd fails
 PartFails-sum of unit own text Memory fails = tt
 PartFails-sum of unit own text TooMany fails = tt
 
-pub FirstFails-sum : (wanted : List Column) (text : Bytes) (fault : PartFault) → SumFails text fault → FirstFails wanted text fault
-FirstFails-sum wanted text NotTable fails = fails
-FirstFails-sum wanted text OtherColumns fails = absurd fails
-FirstFails-sum wanted text Memory fails = tt
-FirstFails-sum wanted text TooMany fails = tt
+pub FirstFails-sum : (shown tested : List Column) (text : Bytes) (fault : PartFault) → SumFails text fault → FirstFails shown tested text fault
+FirstFails-sum shown tested text NotTable fails = fails
+FirstFails-sum shown tested text OtherColumns fails = absurd fails
+FirstFails-sum shown tested text Memory fails = tt
+FirstFails-sum shown tested text TooMany fails = tt

@@ -16,18 +16,22 @@ pub record IsByThese (of : Of) (columns : List Column) (places : List ℕ) (sum 
   pub kind : sum.of ≡ of
   pub by : sum.columns ≡ picked places columns
 
--- the columns that are asked for; where none is, all
-abbrev pub chosen : List Column → List Column → List Column
-chosen [] columns = columns
-chosen (column ∷ wanted) columns = column ∷ wanted
+-- the columns that are named; where none is, all
+abbrev pub named_or_all : List Column → List Column → List Column
+named_or_all [] columns = columns
+named_or_all (column ∷ named) columns = column ∷ named
+
+-- the columns that are asked for: those that are shown, and behind them those that conditions test
+abbrev pub chosen : List Column → List Column → List Column → List Column
+chosen shown tested columns = named_or_all shown columns ++ tested
 
 -- these columns stand at these places of those
 abbrev pub AreAt : List ℕ → List Column → List Column → Type 0
 AreAt places wanted columns = map (slice_get columns) places ≡ map Some wanted
 
 -- the sum is by the columns that are asked for, which each part has
-abbrev pub Chooses : List Column → PartSum → Type 0
-Chooses wanted sum = AreAt sum.places (chosen wanted sum.columns) sum.columns
+abbrev pub Chooses : List Column → List Column → PartSum → Type 0
+Chooses shown tested sum = AreAt sum.places (chosen shown tested sum.columns) sum.columns
 
 -- each text is a part in this unit, of the table at its place
 abbrev pub AreParts : TimeUnit → List Bytes → List SpanTable → Type 0
@@ -52,8 +56,8 @@ pub record TakesPart (text : Bytes) (old new : PartSum) : Type 0 where
   pub sums : (texts : List Bytes) → SumsParts texts old → SumsParts (texts ++ text ∷ []) new
 
 -- the sum of one part, by the columns that are asked for
-pub record TakesFirst (wanted : List Column) (text : Bytes) (sum : PartSum) : Type 0 where
-  pub chooses : Chooses wanted sum
+pub record TakesFirst (shown tested : List Column) (text : Bytes) (sum : PartSum) : Type 0 where
+  pub chooses : Chooses shown tested sum
   pub sums : SumsParts (text ∷ []) sum
 
 -- the sum of no parts, which sums the same as another, in the same unit and by the same columns
@@ -91,18 +95,18 @@ pub record HasOtherColumns (of : Of) (unit : TimeUnit) (columns : List Column) (
   pub other : part.of ≡ of → own ≡ unit → part.columns ≢ columns
 
 -- the text is of a table that lacks a column that is asked for
-pub record LacksColumn (wanted : List Column) (text : Bytes) : Type 0 where
+pub record LacksColumn (shown tested : List Column) (text : Bytes) : Type 0 where
   pub unit : TimeUnit
   pub part : SpanTable
   pub is : IsPart unit text part
-  pub lacks : (places : List ℕ) → AreAt places (chosen wanted part.columns) part.columns → ⊥
+  pub lacks : (places : List ℕ) → AreAt places (chosen shown tested part.columns) part.columns → ⊥
 
 -- why a first part is not added
-abbrev pub FirstFails : List Column → Bytes → PartFault → Type 0
-FirstFails wanted text NotTable = IsNoPart text
-FirstFails wanted text OtherColumns = LacksColumn wanted text
-FirstFails wanted text Memory = Unit {0}
-FirstFails wanted text TooMany = Unit {0}
+abbrev pub FirstFails : List Column → List Column → Bytes → PartFault → Type 0
+FirstFails shown tested text NotTable = IsNoPart text
+FirstFails shown tested text OtherColumns = LacksColumn shown tested text
+FirstFails shown tested text Memory = Unit {0}
+FirstFails shown tested text TooMany = Unit {0}
 
 -- why one of several that sum this, in this unit and by these columns, is not added
 abbrev pub PartFails : Of → TimeUnit → List Column → Bytes → PartFault → Type 0

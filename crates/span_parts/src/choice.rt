@@ -1,15 +1,30 @@
 //! Which columns of parts a sum has.
 ghost use Rattle.std.specs.Prelude.{◌≡◌, ◌≢◌, ◌↔◌, ◌<◌, ℕ, length, slice_get, IfNone, IfOk, IfSome, IsTrue, Some};
-ghost use Rattle.span_parts.specs.Sum.{FindsPlaces, chosen};
+ghost use Rattle.span_parts.specs.Sum.{FindsPlaces, chosen, named_or_all};
 
-use span_table::Column;
+use span_table::{Column, copies_of};
 use std::alloc::{AllocError, Global};
 
-/// The columns that are asked for, or all where none is.
-pub(crate) fn chosen<'a>(wanted: &'a [Column], columns: &'a [Column]) -> &'a [Column]
-    ensures { result.now ≡ chosen wanted.now columns.now }
+/// The columns that are asked for: those that are shown, or all where none is named, and behind them those that conditions test.
+pub(crate) fn chosen(
+    alloc: Global,
+    shown: &[Column],
+    tested: &[Column],
+    columns: &[Column],
+) -> Result<Vec<Column>, AllocError>
+    ensures { IfOk result (λ all. all.items ≡ chosen shown.now tested.now columns.now) }
 {
-    if wanted.is_empty() { columns } else { wanted }
+    let mut chosen = copies_of(alloc, named_or_all(shown, columns))?;
+    for column in tested {
+        chosen.push(column.try_clone(alloc)?)?;
+    }
+    Ok(chosen)
+}
+
+fn named_or_all<'a>(named: &'a [Column], columns: &'a [Column]) -> &'a [Column]
+    ensures { result.now ≡ named_or_all named.now columns.now }
+{
+    if named.is_empty() { columns } else { named }
 }
 
 /// Where each of these columns stands among those. None where one doesn't.

@@ -1,6 +1,6 @@
 //! The first line of a part.
 ghost use Rattle.std.specs.{List.list_any, Prelude.{◌≡◌, ◌↔◌, ◌==◌, ◌++◌, ◌∷◌, [], true, ℕ, List, map, IfErr, IfOk, IfSome, IsTrue}};
-ghost use Rattle.span_parts.specs.{Bytes, Unit as TheUnit, Column as TheColumn, TableCounts as TheCounts, Of as TheOf, column_name, counts_fit, json_head, is_column, AreColumns, AreDistinct, First.{Begins, IsFirstLine, MayBegin, Says}, Sum.FailsToBegin};
+ghost use Rattle.span_parts.specs.{Bytes, Unit as TheUnit, Column as TheColumn, TableCounts as TheCounts, Of as TheOf, column_name, counts_fit, json_head, is_column, is_key, AreColumns, AreDistinct, First.{Begins, IsFirstLine, MayBegin, Says}, Sum.FailsToBegin};
 
 use crate::fault::PartFault;
 use crate::guess::{FirstLine, first_line_of};
@@ -102,9 +102,15 @@ fn is_column(column: &Column) -> bool
     ensures { result ≡ is_column column.now }
 {
     match column {
-        Column::Argument(key) => !key.as_str().is_empty() && !has_comma(key),
+        Column::Argument(key) | Column::ParentArgument(key) => is_key(key),
         _ => true,
     }
+}
+
+fn is_key(key: &Text) -> bool
+    ensures { result ≡ is_key key.now }
+{
+    !key.as_str().is_empty() && !has_comma(key)
 }
 
 fn has_comma(key: &Text) -> bool

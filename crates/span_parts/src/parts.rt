@@ -39,29 +39,30 @@ impl Model for Parts {
 }
 
 impl Parts {
-    /// The sum of the one part that this text is, by these columns, of which it has each, in any order; where none is named, by all
-    /// that it has. Maps that files fill are hashed by these keys.
+    /// The sum of the one part that this text is, by the columns that are shown, or by all that it has where none is named, and behind
+    /// them by those that conditions test. It has each of them, in any order. Maps that files fill are hashed by these keys.
     pub fn of_first(
         alloc: Global,
         keys: HashKeys,
-        wanted: &[Column],
+        shown: &[Column],
+        tested: &[Column],
         text: &[u8],
     ) -> Result<Parts, PartFault>
-        ensures sum { IfOk result (TakesFirst wanted.now text.now) }
-        ensures fault { IfErr result (FirstFails wanted.now text.now) }
+        ensures sum { IfOk result (TakesFirst shown.now tested.now text.now) }
+        ensures fault { IfErr result (FirstFails shown.now tested.now text.now) }
     {
         let mut room = LineRoom::new(alloc);
         let (first, rest) = match begin(alloc, text, &mut room) {
             Ok(begun) => begun,
             Err(fault) => return Err(fault),
         };
-        let wanted = chosen(wanted, &first.columns);
-        let places = match places_of(alloc, wanted, &first.columns) {
+        let wanted = chosen(alloc, shown, tested, &first.columns)?;
+        let places = match places_of(alloc, &wanted, &first.columns) {
             Ok(Some(places)) => places,
             Ok(None) => return Err(fault_of_others(alloc, &first, rest, &mut room)),
             Err(_) => return Err(PartFault::Memory),
         };
-        let sum = match TableSum::new(alloc, keys, first.of, wanted) {
+        let sum = match TableSum::new(alloc, keys, first.of, &wanted) {
             Ok(sum) => sum,
             Err(_) => return Err(PartFault::Memory),
         };

@@ -108,12 +108,16 @@ fn may_have(column: &Column, value: &Option<ArgValue>) -> bool
 {
     match column {
         Column::Pid | Column::Tid => is_whole(value),
-        Column::Process | Column::Thread => matches!(value, None | Some(ArgValue::Words(_))),
+        Column::Process | Column::Thread | Column::ParentName => {
+            matches!(value, None | Some(ArgValue::Words(_)))
+        }
         Column::Name | Column::File | Column::Cat | Column::Scope | Column::Id => matches!(
             value,
             Some(ArgValue::Words(_))
         ),
-        Column::Argument(_) => is_whole(value) || !matches!(value, Some(ArgValue::Whole(_))),
+        Column::Argument(_) | Column::ParentArgument(_) => {
+            is_whole(value) || !matches!(value, Some(ArgValue::Whole(_)))
+        }
     }
 }
 

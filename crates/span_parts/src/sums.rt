@@ -8,7 +8,7 @@ use crate::room::LineRoom;
 use crate::rows::row_of_line;
 use span_event::{ArgValue, Text};
 use span_names::HashKeys;
-use span_table::{Column, Key, Of, Row, TableSum};
+use span_table::{Column, Key, Of, Row, TableSum, copy_of};
 use span_table_text::column_names;
 use std::alloc::{AllocError, Global};
 
@@ -195,18 +195,9 @@ fn push_value(
 {
     match key.values().get(place) {
         Some(value) => {
-            values.push(copy_of(alloc, value)?)?;
+            values.push(copy_of(alloc, value.as_ref())?)?;
             Ok(())
         }
         None => Ok(()),
-    }
-}
-
-fn copy_of(alloc: Global, value: &Option<ArgValue>) -> Result<Option<ArgValue>, AllocError>
-    ensures { IfOk result (λ copy. copy ≡ value.now) }
-{
-    match value {
-        Some(value) => Ok(Some(value.try_clone(alloc)?)),
-        None => Ok(None),
     }
 }
