@@ -1,0 +1,44 @@
+-- Where nothing is narrowed.
+use Rattle.std.specs.Prelude.{filter_map}
+use Rattle.std.proofs.{Common.{◌≡◌, ◌∙◌, ◌-◌, ◌==◌, Bool, true, false, not, List, [], ◌∷◌, Some, ap, arith, length, refl, sym, take, true≢false}, Math.Seq.take-length, lemmas.{Bool.{and_parts, ne_eqb}}}
+use Rattle.span_table.proofs.OwnRows.{rows_of-own}
+use Rattle.span_narrowing.specs.{Column, KeyedSums, TableKey, keyed_rows, rows_of, Laws.PlainChangesNothing, Narrowed.{is_plain, narrowed, narrowed_key, narrowed_sums, shown_of}, declared.{conditions.Condition.Condition, narrowing.Narrowing.Narrowing}}
+
+-- all of a list is before those of no conditions
+all-shown : {A : Type 0} (list : List A) → take (length list - 0) list ≡ list
+all-shown list = let all : length list - 0 ≡ length list = omega arith in ap (λ n. take n list) all ∙ take-length list
+
+none : (conditions : List Condition) → (length conditions == 0) ≡ true → conditions ≡ []
+none [] is = refl
+none (condition ∷ conditions) is = absurd (true≢false (sym is ∙ ne_eqb (length (condition ∷ conditions)) 0 (λ same. omega (arith, same))))
+
+module _ (narrowing : Narrowing) (is : is_plain narrowing ≡ true) where
+  no-conditions : narrowing.conditions.items ≡ []
+  no-conditions = none narrowing.conditions.items (and_parts (length narrowing.conditions.items == 0) (not narrowing.merges) is).0
+
+  no-merges : narrowing.merges ≡ false
+  no-merges = by narrowing.merges (and_parts (length narrowing.conditions.items == 0) (not narrowing.merges) is).1
+    where
+      by : (b : Bool) → not b ≡ true → b ≡ false
+      by true e = sym e
+      by false e = refl
+
+  -- keys stay
+  narrowed_key-plain : (columns : List Column) (key : TableKey) → narrowed_key narrowing columns key ≡ Some key
+  narrowed_key-plain columns key = rw (no-conditions, no-merges) (ap Some (all-shown key))
+
+  -- so do sums under them
+  narrowed_sums-plain : (columns : List Column) (sums : KeyedSums) → filter_map (narrowed_sums narrowing columns) sums ≡ sums
+  narrowed_sums-plain columns [] = refl
+  narrowed_sums-plain columns (own ∷ sums) = rw (narrowed_key-plain columns own.key) (ap (λ l. own ∷ l) (narrowed_sums-plain columns sums))
+
+-- a table stays as it is
+pub narrowed-plain : PlainChangesNothing
+unfolding narrowed
+narrowed-plain narrowing table is rise = λ i. record { of = table.of; columns = columns i; counts = table.counts; rows = rows i }
+  where
+    columns : take (shown_of narrowing.conditions.items table.columns) table.columns ≡ table.columns
+    columns = ap (λ (conditions : List Condition). take (shown_of conditions table.columns) table.columns) (no-conditions narrowing is) ∙ all-shown table.columns
+
+    rows : rows_of (filter_map (narrowed_sums narrowing table.columns) (keyed_rows table.rows)) ≡ table.rows
+    rows = ap rows_of (narrowed_sums-plain narrowing is table.columns (keyed_rows table.rows)) ∙ rows_of-own table.rows rise
