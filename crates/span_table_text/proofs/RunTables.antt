@@ -283,14 +283,14 @@ module _ (of : Of) (columns : List Column) (runs : List Run) where
   IsPart-table_of unit second text part is print =
       prints-determined unit second text part (table_of of columns runs) is print (table_of-HasWholeKeys columns runs of) (table_of-HasOwnNumbers columns runs of)
 
-  pub table_of-HasRows : AreColumns of columns → HaveFiles columns runs → All IsOfLegal runs → HasRows (table_of of columns runs)
-  table_of-HasRows are files legal = HasRows-rows_of (table_of of columns runs) (flat_map (run_sums of columns) runs) refl (runs-Suits columns runs of are.suited files legal)
+  pub table_of-HasRows : All (λ column. goes_with of column ≡ true) columns → HaveFiles columns runs → All IsOfLegal runs → HasRows (table_of of columns runs)
+  table_of-HasRows suited files legal = HasRows-rows_of (table_of of columns runs) (flat_map (run_sums of columns) runs) refl (runs-Suits columns runs of suited files legal)
 
 -- so what is printed of the rows that are shown of such runs is a part
 pub prints-parts : PrintsAreParts
 prints-parts unit of columns runs wanted text are files legal print =
     let table = table_of of columns runs in
-    IsPart-print unit text (shown_table wanted table) are (HasRows-shown wanted table (table_of-HasRows of columns runs are files legal)) print
+    IsPart-print unit text (shown_table wanted table) are (HasRows-shown wanted table (table_of-HasRows of columns runs are.suited files legal)) print
 
 filter-every : {A : Type 0} (p : A → Bool) → ((x : A) → p x ≡ true) → (xs : List A) → filter p xs ≡ xs
 filter-every p each [] = refl
