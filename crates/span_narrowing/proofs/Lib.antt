@@ -1,3 +1,4 @@
 mod Adding
 mod Plain
 mod Shown
+mod Suited

@@ -1,8 +1,8 @@
 -- Where nothing is narrowed.
 use Rattle.std.specs.Prelude.{filter_map}
-use Rattle.std.proofs.{Common.{◌≡◌, ◌∙◌, ◌-◌, ◌==◌, Bool, true, false, not, List, [], ◌∷◌, Some, ap, arith, length, refl, sym, take, true≢false}, Math.Seq.take-length, lemmas.{Bool.{and_parts, ne_eqb}}}
+use Rattle.std.proofs.{Common.{◌≡◌, ◌∙◌, ◌-◌, ◌==◌, Bool, true, false, not, List, [], ◌∷◌, ◌++◌, Some, ap, append-nil, map, arith, length, refl, sym, take, true≢false}, Math.Seq.take-length, lemmas.{Bool.{and_parts, ne_eqb}}}
 use Rattle.span_table.proofs.OwnRows.{rows_of-own}
-use Rattle.span_narrowing.specs.{Column, KeyedSums, TableKey, keyed_rows, rows_of, Laws.PlainChangesNothing, Narrowed.{is_plain, narrowed, narrowed_key, narrowed_sums, shown_of}, declared.{conditions.Condition.Condition, narrowing.Narrowing.Narrowing}}
+use Rattle.span_narrowing.specs.{Column, KeyedSums, TableKey, keyed_rows, rows_of, Laws.PlainChangesNothing, Narrowed.{is_plain, narrowed, narrowed_key, narrowed_sums, shown_of, summed_by}, declared.{conditions.Condition.Condition, narrowing.Narrowing.Narrowing}}
 
 -- all of a list is before those of no conditions
 all-shown : {A : Type 0} (list : List A) → take (length list - 0) list ≡ list
@@ -22,6 +22,10 @@ module _ (narrowing : Narrowing) (is : is_plain narrowing ≡ true) where
       by : (b : Bool) → not b ≡ true → b ≡ false
       by true e = sym e
       by false e = refl
+
+  -- the columns are those that are shown
+  pub summed_by-plain : (columns : List Column) → summed_by columns narrowing ≡ columns
+  summed_by-plain columns = ap (λ (conditions : List Condition). columns ++ map (λ (condition : Condition). condition.column) conditions) no-conditions ∙ append-nil columns
 
   -- keys stay
   narrowed_key-plain : (columns : List Column) (key : TableKey) → narrowed_key narrowing columns key ≡ Some key
