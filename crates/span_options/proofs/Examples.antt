@@ -127,6 +127,29 @@ only-faultless = refl
 only-texts : texts_of (codes "only") (matches_of command only) ≡ codes "a" ∷ codes "b" ∷ []
 only-texts = read (texts_of (codes "only")) only only_end only-ends
 
+-- ---- conditions, in which equals signs stand too, and a switch behind them
+
+abbrev conditions : List Text
+conditions = codes "--where=name=a" ∷ codes "--where" ∷ codes "tid!=1" ∷ codes "--merge-templates" ∷ []
+
+abbrev conditions_end : Held
+conditions_end = no_files
+    (given (codes "where") AsWritten (codes "name=a" ∷ codes "tid!=1" ∷ []) ∷ given (codes "merge-templates") AsWritten (codes "true" ∷ []) ∷ [])
+
+conditions-ends : end_of conditions ≡ conditions_end
+unfolding clap_on_literals
+conditions-ends = refl
+
+conditions-faultless : faults conditions ≡ []
+unfolding clap_on_literals
+conditions-faultless = refl
+
+conditions-texts : texts_of (codes "where") (matches_of command conditions) ≡ codes "name=a" ∷ codes "tid!=1" ∷ []
+conditions-texts = read (texts_of (codes "where")) conditions conditions_end conditions-ends
+
+conditions-merge : is_on (codes "merge-templates") (matches_of command conditions) ≡ true
+conditions-merge = read (is_on (codes "merge-templates")) conditions conditions_end conditions-ends
+
 -- ---- a file whose name looks like an option, behind two hyphens
 
 abbrev behind : List Text

@@ -41,7 +41,7 @@ abbrev pub tables : List Rule
 tables =
     number (codes "top") greatest ∷ option (codes "by") ∷ option (codes "of") ∷ list (codes "base") ∷ switch (codes "json")
     ∷ switch (codes "apart") ∷ switch (codes "repeats") ∷ number (codes "jobs") 64 ∷ switch (codes "add")
-    ∷ option (codes "group-by") ∷ texts (codes "only") ∷ texts (codes "skip") ∷ []
+    ∷ option (codes "group-by") ∷ list (codes "where") ∷ switch (codes "merge-templates") ∷ texts (codes "only") ∷ texts (codes "skip") ∷ []
 
 abbrev pub others : List Rule
 others = switch (codes "refused") ∷ switch (codes "folded") ∷ switch (codes "page") ∷ option (codes "files-from") ∷ rest (codes "files") ∷ []

@@ -43,6 +43,8 @@ pub record IsGiven (matches : Matches) (options : Options) : Type 0 where
   pub jobs : options.jobs ≡ number_of (codes "jobs") matches
   pub add : options.add ≡ is_on (codes "add") matches
   pub group_by : options.group_by ≡ first_of (codes "group-by") matches
+  pub conditions : options.conditions.items ≡ texts_of (codes "where") matches
+  pub merge_templates : options.merge_templates ≡ is_on (codes "merge-templates") matches
   pub only : options.only.items ≡ texts_of (codes "only") matches
   pub skip : options.skip.items ≡ texts_of (codes "skip") matches
   pub refused : options.refused ≡ is_on (codes "refused") matches

@@ -30,6 +30,8 @@ pub record HasOnlyFiles (files : List Text) (options : Options) : Type 0 where
   pub jobs : options.jobs ≡ None
   pub add : options.add ≡ false
   pub group_by : options.group_by ≡ None
+  pub conditions : options.conditions.items ≡ []
+  pub merge_templates : options.merge_templates ≡ false
   pub only : options.only.items ≡ []
   pub skip : options.skip.items ≡ []
   pub refused : options.refused ≡ false

@@ -5,8 +5,9 @@ ghost use Rattle.span_options.specs.Command.{command, list, number, option, othe
 
 use crate::help::{
     ABOUT, ADD_HELP, AFTER, APART_HELP, BASE_HELP, BY_HELP, FILE_HELP, FILES_FROM_HELP,
-    FOLDED_HELP, GROUP_BY_HELP, JOBS_HELP, JSON_HELP, NANOSECONDS_HELP, OF_HELP, ONLY_HELP,
-    PAGE_HELP, REFUSED_HELP, REPEATS_HELP, SEAL_HELP, SKIP_HELP, STRICT_HELP, TOP_HELP,
+    FOLDED_HELP, GROUP_BY_HELP, JOBS_HELP, JSON_HELP, MERGE_TEMPLATES_HELP, NANOSECONDS_HELP,
+    OF_HELP, ONLY_HELP, PAGE_HELP, REFUSED_HELP, REPEATS_HELP, SEAL_HELP, SKIP_HELP, STRICT_HELP,
+    TOP_HELP, WHERE_HELP,
 };
 use clap::builder::ValueParser;
 use clap::{Arg, ArgAction, Command};
@@ -54,6 +55,8 @@ fn tables(alloc: Global) -> Result<Vec<Arg<'static>>, AllocError>
         number(alloc, "jobs", 64, JOBS_HELP),
         switch(alloc, "add", ADD_HELP),
         option(alloc, "group-by", "COLUMNS", GROUP_BY_HELP),
+        list(alloc, "where", "CONDITION", WHERE_HELP),
+        switch(alloc, "merge-templates", MERGE_TEMPLATES_HELP),
         texts(alloc, "only", ONLY_HELP),
         texts(alloc, "skip", SKIP_HELP),
     ]?)

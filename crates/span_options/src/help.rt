@@ -37,6 +37,18 @@ process, thread, name, args.KEY (an argument of the span), and with
 tables; with --top, --json, --base and --page. With --folded, and in
 the graphs of --page, name and args.KEY say what a frame is called"#;
 
+pub(crate) const WHERE_HELP: &str =
+    r#"Sum only spans whose value in a column is TEXT (COLUMN=TEXT), is not
+(COLUMN!=TEXT), contains it (COLUMN~TEXT) or does not (COLUMN!~TEXT);
+any column that --group-by may name, shown or not; a missing value is
+the empty text; repeat it for several conditions, which are all to
+hold; with --top, --json and --base"#;
+
+pub(crate) const MERGE_TEMPLATES_HELP: &str =
+    r#"Leave out what stands between the < and > of templates in names and
+arguments, so that std::map<int, foo<bar>>::at is std::map<$>::at,
+before --where, --only and --skip; with --top, --json and --base"#;
+
 pub(crate) const APART_HELP: &str =
     r#"Take each FILE as a run of its own, whatever processes they share, and
 sum their tables; any number of files; with --top, --json, --base and
