@@ -2,6 +2,7 @@ pub mod Appending
 pub mod Coding
 pub mod Graphs
 pub mod Joined
+pub mod LongTexts
 pub mod RunsSoFar
 pub mod SafePieces
 pub mod SafeTexts

@@ -1,8 +1,8 @@
 -- A page of runs, with one run more.
 use Rattle.std.specs.List.{join_with_byte}
-use Rattle.std.proofs.Common.{◌≡◌, ℕ, zero, Bool, true, false, List, [], ◌∷◌, ◌++◌, codes, refl, sym, ap, ◌∙◌, append_assoc, append-nil, arith}
-use Rattle.span_page.specs.{Unit, SpanColumn, json_text_of, Data.most_frames, Page.{text_before, text_behind}, Runs.{BegunPage, Holds, ShownRun, are_some, begun_text, page_of_runs, left_behind_run, left_behind_runs, run_json, runs_json}, Safe.{safe, safe_byte}}
-use Rattle.span_page.proofs.SafePieces.{safe_after-before, safe-runs}
+use Rattle.std.proofs.Common.{◌≡◌, ℕ, zero, Bool, true, false, List, [], ◌∷◌, ◌++◌, codes, Option, Some, None, refl, sym, ap, subst, ◌∙◌, append_assoc, append-nil, arith}
+use Rattle.span_page.specs.{Unit, SpanColumn, json_text_of, Bounds.IsTooLong, Data.most_frames, Page.{text_before, text_behind}, Runs.{Begins, BegunPage, Holds, ShownRun, TakesRun, are_some, begun_text, page_of_runs, left_behind_run, left_behind_runs, run_json, runs_json}, Safe.{safe, safe_byte}}
+use Rattle.span_page.proofs.{LongTexts.{long-appends, long-beginning}, SafePieces.{safe_after-before, safe-runs}}
 
 -- a comma stands for itself
 safe-comma : (more : List ℕ) → safe (44 ∷ more) ≡ 44 ∷ safe more
@@ -56,22 +56,39 @@ module _ (unit : Unit) (labels : List SpanColumn) where
   many [] run = refl
   many (first ∷ runs) run = refl
 
-  pub Holds-push : (runs : List ShownRun) (run : ShownRun) (old new : BegunPage) → Holds unit labels runs old →
-      new.text ≡ (old.text ++ comma old.has_run) ++ safe (run_json unit labels old.left run) → new.left ≡ left_behind_run labels old.left run → new.has_run ≡ true → Holds unit labels (runs ++ run ∷ []) new
-  Holds-push runs run old new holds text left some = record {
-    text = text ∙ (λ i. (holds.text i ++ comma (holds.some i)) ++ safe (run_json unit labels (holds.left i) run)) ∙ begun_text-push runs run;
-    left = left ∙ ap (λ n. left_behind_run labels n run) holds.left ∙ sym (left_behind_runs-push most_frames runs run);
+  -- the text of a page with one more run
+  pub begun_text-grown : (runs : List ShownRun) (run : ShownRun) (old : BegunPage) → Begins unit labels runs old →
+      (old.text ++ comma old.has_run) ++ safe (run_json unit labels old.left run) ≡ begun_text unit labels (runs ++ run ∷ [])
+  begun_text-grown runs run old begins = (λ i. (begins.text i ++ comma (begins.some i)) ++ safe (run_json unit labels (begins.left i) run)) ∙ begun_text-push runs run
+
+  pub Begins-push : (runs : List ShownRun) (run : ShownRun) (old new : BegunPage) → Begins unit labels runs old →
+      new.text ≡ (old.text ++ comma old.has_run) ++ safe (run_json unit labels old.left run) → new.left ≡ left_behind_run labels old.left run → new.has_run ≡ true → Begins unit labels (runs ++ run ∷ []) new
+  Begins-push runs run old new begins text left some = record {
+    text = text ∙ begun_text-grown runs run old begins;
+    left = left ∙ ap (λ n. left_behind_run labels n run) begins.left ∙ sym (left_behind_runs-push most_frames runs run);
     some = some ∙ sym (many runs run);
   }
 
+  -- a page that is too long is so with one more run
+  pub TakesRun-none : (run : ShownRun) → TakesRun unit labels run None None
+  TakesRun-none run runs long =
+      let more = safe (run_json unit labels (left_behind_runs labels most_frames runs) run) in
+      long-beginning (begun_text unit labels runs) (comma (are_some runs) ++ more) (begun_text unit labels (runs ++ run ∷ []))
+      (sym (append_assoc (begun_text unit labels runs) (comma (are_some runs)) more) ∙ begun_text-push runs run) long
+
   -- a run that has the same data, and leaves as many frames, may stand for the last
-  pub Holds-alike : (runs : List ShownRun) (one other : ShownRun) (page : BegunPage) → ((left : ℕ) → run_json unit labels left one ≡ run_json unit labels left other) →
+  begun_text-alike : (runs : List ShownRun) (one other : ShownRun) → ((left : ℕ) → run_json unit labels left one ≡ run_json unit labels left other) →
+      begun_text unit labels (runs ++ one ∷ []) ≡ begun_text unit labels (runs ++ other ∷ [])
+  begun_text-alike runs one other same = ap (λ (texts : List (List ℕ)). text_before ++ (codes "{\"runs\":[" ++ safe (join_with_byte 44 texts)))
+      (runs_json-push most_frames runs one ∙ ap (λ (text : List ℕ). runs_json unit labels most_frames runs ++ text ∷ []) (same (left_behind_runs labels most_frames runs)) ∙ sym (runs_json-push most_frames runs other))
+
+  pub Holds-alike : (runs : List ShownRun) (one other : ShownRun) (page : Option BegunPage) → ((left : ℕ) → run_json unit labels left one ≡ run_json unit labels left other) →
       ((left : ℕ) → left_behind_run labels left one ≡ left_behind_run labels left other) → Holds unit labels (runs ++ one ∷ []) page → Holds unit labels (runs ++ other ∷ []) page
-  Holds-alike runs one other page same behind holds = record {
-    text = holds.text ∙ ap (λ (texts : List (List ℕ)). text_before ++ (codes "{\"runs\":[" ++ safe (join_with_byte 44 texts)))
-        (runs_json-push most_frames runs one ∙ ap (λ (text : List ℕ). runs_json unit labels most_frames runs ++ text ∷ []) (same (left_behind_runs labels most_frames runs)) ∙ sym (runs_json-push most_frames runs other));
-    left = holds.left ∙ left_behind_runs-push most_frames runs one ∙ behind (left_behind_runs labels most_frames runs) ∙ sym (left_behind_runs-push most_frames runs other);
-    some = holds.some ∙ many runs one ∙ sym (many runs other);
+  Holds-alike runs one other None same behind long = subst IsTooLong (begun_text-alike runs one other same) long
+  Holds-alike runs one other (Some page) same behind begins = record {
+    text = begins.text ∙ begun_text-alike runs one other same;
+    left = begins.left ∙ left_behind_runs-push most_frames runs one ∙ behind (left_behind_runs labels most_frames runs) ∙ sym (left_behind_runs-push most_frames runs other);
+    some = begins.some ∙ many runs one ∙ sym (many runs other);
   }
 
   -- the text is ended by a table
@@ -82,3 +99,8 @@ module _ (unit : Unit) (labels : List SpanColumn) where
       let texts = runs_json unit labels most_frames runs in
       append-page text_before (codes "{\"runs\":[") (safe (join_with_byte 44 texts)) (codes "],\"table\":") (safe (json_text_of table)) (codes "}") text_behind
       ∙ ap (λ (t : List ℕ). text_before ++ (t ++ text_behind)) (sym (safe-runs texts table))
+
+  -- as it is with whatever table
+  pub page_of_runs-long : (table : List ℕ) (runs : List ShownRun) → IsTooLong (begun_text unit labels runs) → IsTooLong (page_of_runs unit labels table runs)
+  page_of_runs-long table runs long =
+      subst IsTooLong (page_of_runs-begun table runs) (long-appends (begun_text unit labels runs) (codes "],\"table\":") (safe (json_text_of table)) (codes "}") text_behind long)

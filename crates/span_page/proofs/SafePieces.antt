@@ -2,7 +2,7 @@
 use Rattle.std.specs.{List.{join_with_byte, starts_with}, Prelude.{T, not, codes, map}}
 use Rattle.std.proofs.{Common.{◌≡◌, ◌≢◌, ℕ, zero, suc, ◌≤◌, Bool, true, false, ◌&&◌, cond, List, [], ◌∷◌, ◌++◌, length, nat_eq, refl, sym, ap, ap₂, ◌∙◌, append_assoc, append-nil, arith}, Math.Facts.no_eqb}
 use Rattle.json.specs.Print.{escape}
-use Rattle.span_page.specs.{Unit, Entry, SpanColumn, rows_by_process, json_text_of, FileEnd, Input, end_lines, refusals_of, Data.{all_stacks_json, array_of, graphs_json, names_json, rest_of, threads_of}, Safe.{safe, safe_after, safe_byte}}
+use Rattle.span_page.specs.{Unit, Entry, SpanColumn, rows_by_process, json_text_of, report_of, FileEnd, Input, end_lines, refusals_of, Data.{all_stacks_json, array_of, data_of, graphs_json, most_frames, names_json, rest_of, threads_of}, Safe.{safe, safe_after, safe_byte}}
 
 -- what stands for a text that begins with a byte, by what it begins with
 abbrev begun : Bool → Bool → ℕ → List ℕ → List ℕ
@@ -112,7 +112,7 @@ unfolding safe_byte
 safe-report report rest = ap (λ (t : List ℕ). codes "{\"report\":" ++ t) (safe-json report rest)
 
 -- a table, and what is behind it
-pub safe-table : (table rest : List ℕ) → safe (codes ",\"table\":" ++ (json_text_of table ++ rest)) ≡ codes ",\"table\":" ++ (safe (json_text_of table) ++ safe rest)
+safe-table : (table rest : List ℕ) → safe (codes ",\"table\":" ++ (json_text_of table ++ rest)) ≡ codes ",\"table\":" ++ (safe (json_text_of table) ++ safe rest)
 unfolding safe_byte
 safe-table table rest = ap (λ (t : List ℕ). codes ",\"table\":" ++ t) (safe-json table rest)
 
@@ -129,6 +129,15 @@ safe-rest unit left labels files ends journal =
     ∙ ap (λ (t : List ℕ). safe (json_text_of (refusals_of unit files ends journal)) ++ (codes ",\"files\":" ++ t)) (safe-names files faults
     ∙ ap (λ (t : List ℕ). safe (names_json files) ++ (codes ",\"faults\":" ++ t)) (safe-json (end_lines files ends) stacks
     ∙ ap (λ (t : List ℕ). safe (json_text_of (end_lines files ends)) ++ (codes ",\"stacks\":" ++ t)) (safe-stacks left labels journal (codes "}")))))
+
+-- the data of a run, from their pieces
+pub safe-data : (unit : Unit) (labels : List SpanColumn) (table : List ℕ) (files : List Input) (ends : List FileEnd) (journal : List Entry) →
+    safe (data_of unit labels table files ends journal)
+    ≡ (codes "{\"report\":" ++ safe (json_text_of (report_of unit journal))) ++ (codes ",\"table\":" ++ (safe (json_text_of table) ++ safe (rest_of unit most_frames labels files ends journal)))
+safe-data unit labels table files ends journal =
+    let rest = rest_of unit most_frames labels files ends journal in
+    safe-report (report_of unit journal) (codes ",\"table\":" ++ (json_text_of table ++ rest))
+    ∙ ap (λ (t : List ℕ). (codes "{\"report\":" ++ safe (json_text_of (report_of unit journal))) ++ t) (safe-table table rest)
 
 -- the data of runs, from their pieces
 pub safe-runs : (texts : List (List ℕ)) (table : List ℕ) →

@@ -1,3 +1,4 @@
+pub mod Bounds
 pub mod Coded
 pub mod Data
 pub mod Laws

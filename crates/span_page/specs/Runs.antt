@@ -1,6 +1,6 @@
 -- A page of several runs.
-use Rattle.std.specs.{List.join_with_byte, Prelude.{◌≡◌, ℕ, Bool, true, false, List, [], ◌∷◌, ◌++◌, codes}}
-use Rattle.span_page.specs.{Unit, Entry, rows_by_process, FileEnd, Input, json_text_of, report_of, SpanColumn, Data.{array_of, left_behind, most_frames, rest_of, threads_of}, Page.{text_before, text_behind}, Safe.safe}
+use Rattle.std.specs.{List.join_with_byte, Prelude.{◌≡◌, ℕ, Bool, true, false, List, [], ◌∷◌, ◌++◌, codes, Option, Some, None}}
+use Rattle.span_page.specs.{Unit, Entry, rows_by_process, FileEnd, Input, json_text_of, report_of, SpanColumn, Bounds.IsTooLong, Data.{array_of, left_behind, most_frames, rest_of, threads_of}, Page.{text_before, text_behind}, Safe.safe}
 
 -- a run as a page shows it: its files, how they ended, and the journal
 pub record ShownRun : Type 0 where
@@ -53,11 +53,16 @@ are_some [] = false
 are_some (run ∷ later) = true
 
 -- the page has these runs so far
-pub record Holds (unit : Unit) (labels : List SpanColumn) (runs : List ShownRun) (page : BegunPage) : Type 0 where
+pub record Begins (unit : Unit) (labels : List SpanColumn) (runs : List ShownRun) (page : BegunPage) : Type 0 where
   pub text : page.text ≡ begun_text unit labels runs
   pub left : page.left ≡ left_behind_runs labels most_frames runs
   pub some : page.has_run ≡ are_some runs
 
+-- the page has these runs so far; or nothing of it is kept, and with these runs it is too long
+abbrev pub Holds : Unit → List SpanColumn → List ShownRun → Option BegunPage → Type 0
+Holds unit labels runs None = IsTooLong (begun_text unit labels runs)
+Holds unit labels runs (Some page) = Begins unit labels runs page
+
 -- one more run is taken
-abbrev pub TakesRun : Unit → List SpanColumn → ShownRun → BegunPage → BegunPage → Type 0
+abbrev pub TakesRun : Unit → List SpanColumn → ShownRun → Option BegunPage → Option BegunPage → Type 0
 TakesRun unit labels run old new = (runs : List ShownRun) → Holds unit labels runs old → Holds unit labels (runs ++ run ∷ []) new

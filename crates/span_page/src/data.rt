@@ -1,7 +1,8 @@
 //! The data of a page.
-ghost use Rattle.std.specs.{List.join_with_byte, Prelude.{◌≡◌, ◌++◌, codes, length, map, string_bytes, IfOk, OnOk}};
-ghost use Rattle.span_page.specs.{rows_by_process, json_text_of, report_of, Data.{all_stacks_json, data_of, graph_json, graphs_json, left_after, left_behind, names_json, rest_of, threads_in, threads_of}, Safe.safe};
+ghost use Rattle.std.specs.{List.join_with_byte, Prelude.{◌≡◌, ◌++◌, codes, length, map, string_bytes, IfErr, IfOk, OnOk}};
+ghost use Rattle.span_page.specs.{rows_by_process, json_text_of, report_of, Bounds.IsFaultOf, Data.{all_stacks_json, data_of, graph_json, graphs_json, left_after, left_behind, names_json, rest_of, threads_in, threads_of}, Safe.safe};
 
+use crate::fault::PageFault;
 use crate::safe::put_safe;
 use crate::stacks::{put_names, put_stacks};
 use serde_json::Value;
@@ -26,10 +27,12 @@ pub(crate) fn put_data(
     ends: &[FileEnd],
     labels: &[SpanColumn],
     table: String,
-) -> Result<(), AllocError>
+) -> Result<(), PageFault>
     requires { length files.now ≡ length ends.now }
-    ensures { OnOk result (out.new.items ≡ out.old.items ++ safe
+    ensures text { OnOk result (out.new.items ≡ out.old.items ++ safe
         (data_of unit labels.now (string_bytes table) files.now ends.now ledger.now.journal)) }
+    ensures full { IfErr result (IsFaultOf (out.old.items ++ safe
+        (data_of unit labels.now (string_bytes table) files.now ends.now ledger.now.journal))) }
 {
     let threads = put_report(alloc, unit, out, ledger)?;
     out.extend_from_slice(b",\"table\":")?;
@@ -54,9 +57,11 @@ pub(crate) fn put_report(
     unit: Unit,
     out: &mut Vec<u8>,
     ledger: &Ledger,
-) -> Result<Vec<Thread>, AllocError>
+) -> Result<Vec<Thread>, PageFault>
     ensures text { OnOk result (out.new.items ≡ out.old.items
         ++ (codes "{\"report\":" ++ safe (json_text_of (report_of unit ledger.now.journal)))) }
+    ensures full { IfErr result (IsFaultOf (out.old.items
+        ++ (codes "{\"report\":" ++ safe (json_text_of (report_of unit ledger.now.journal))))) }
     ensures threads { IfOk result (λ threads. threads.items
         ≡ threads_of (rows_by_process ledger.now.journal)) }
 {
@@ -77,11 +82,13 @@ pub(crate) fn put_rest(
     labels: &[SpanColumn],
     threads: &[Thread],
     left: u32,
-) -> Result<u32, AllocError>
+) -> Result<u32, PageFault>
     requires ends { length files.now ≡ length ends.now }
     requires threads { threads.now ≡ threads_of (rows_by_process ledger.now.journal) }
     ensures text { OnOk result (out.new.items ≡ out.old.items
         ++ safe (rest_of unit left labels.now files.now ends.now ledger.now.journal)) }
+    ensures full { IfErr result (IsFaultOf (out.old.items
+        ++ safe (rest_of unit left labels.now files.now ends.now ledger.now.journal))) }
     ensures left { IfOk result (λ rest.
         rest ≡ left_behind labels.now ledger.now.journal left threads.now) }
 {
@@ -141,9 +148,11 @@ pub(crate) fn put_safe_string(
     alloc: Global,
     out: &mut Vec<u8>,
     text: String,
-) -> Result<(), AllocError>
-    ensures { OnOk result (out.new.items
+) -> Result<(), PageFault>
+    ensures text { OnOk result (out.new.items
         ≡ out.old.items ++ safe (json_text_of (string_bytes text))) }
+    ensures full { IfErr result
+        (IsFaultOf (out.old.items ++ safe (json_text_of (string_bytes text)))) }
 {
     let json = string_json(alloc, text)?;
     put_safe(out, json.as_bytes())
@@ -165,10 +174,12 @@ fn stacks_text(
     labels: &[SpanColumn],
     threads: &[Thread],
     left: u32,
-) -> Result<(String, u32), AllocError>
+) -> Result<(String, u32), PageFault>
     requires { threads.now ≡ threads_of (rows_by_process ledger.now.journal) }
     ensures text { IfOk result (λ both. string_bytes both.0
         ≡ all_stacks_json left labels.now ledger.now.journal) }
+    ensures full { IfErr result
+        (IsFaultOf (all_stacks_json left labels.now ledger.now.journal)) }
     ensures left { IfOk result (λ both. both.1
         ≡ left_behind labels.now ledger.now.journal left threads.now) }
 {
@@ -209,9 +220,11 @@ fn put_threads(
     labels: &[SpanColumn],
     threads: &[Thread],
     left: u32,
-) -> Result<u32, AllocError>
+) -> Result<u32, PageFault>
     ensures json { OnOk result (string_bytes out.new ≡ string_bytes out.old
         ++ join_with_byte 44 (graphs_json labels.now ledger.now.journal left threads.now)) }
+    ensures full { IfErr result (IsFaultOf (string_bytes out.old
+        ++ join_with_byte 44 (graphs_json labels.now ledger.now.journal left threads.now))) }
     ensures left { IfOk result (λ rest.
         rest ≡ left_behind labels.now ledger.now.journal left threads.now) }
 {
@@ -234,9 +247,11 @@ fn put_thread(
     labels: &[SpanColumn],
     thread: &Thread,
     left: u32,
-) -> Result<u32, AllocError>
+) -> Result<u32, PageFault>
     ensures json { OnOk result (string_bytes out.new
         ≡ string_bytes out.old ++ graph_json labels.now ledger.now.journal left thread.now) }
+    ensures full { IfErr result (IsFaultOf
+        (string_bytes out.old ++ graph_json labels.now ledger.now.journal left thread.now)) }
     ensures left { IfOk result (λ rest.
         rest ≡ left_after labels.now ledger.now.journal left thread.now) }
 {
@@ -250,6 +265,6 @@ fn put_thread(
             out.push_str("null")?;
             Ok(left)
         }
-        Err(StacksFault::Memory) => Err(AllocError),
+        Err(StacksFault::Memory) => Err(PageFault::Memory),
     }
 }

@@ -2,6 +2,7 @@
 #![tactic(auto)]
 
 mod data;
+mod fault;
 mod fixed;
 pub mod laws;
 mod runs;
@@ -9,6 +10,7 @@ mod safe;
 mod stacks;
 mod text;
 
+pub use fault::PageFault;
 pub use runs::RunsPage;
 pub use span_collect::{FileEnd, Input, Ledger, Sink, WriteFault};
 pub use span_event::Unit;

@@ -1,7 +1,8 @@
 //! JSON texts as they may stand in a page.
-ghost use Rattle.std.specs.{Bool.OnTrue, Prelude.{◌≡◌, ◌<◌, ◌≤◌, ◌∷◌, ◌++◌, ℕ, List, drop, length, take, IfOk, OnOk}};
-ghost use Rattle.span_page.specs.Safe.{safe, safe_byte};
+ghost use Rattle.std.specs.{Bool.OnTrue, Prelude.{◌≡◌, ◌<◌, ◌≤◌, ◌∷◌, ◌++◌, ℕ, List, drop, length, take, IfErr, IfOk, OnOk}};
+ghost use Rattle.span_page.specs.{Bounds.IsFaultOf, Safe.{safe, safe_byte}};
 
+use crate::fault::{PageFault, check_length};
 use std::alloc::AllocError;
 
 // U+2028 and U+2029, which end a line in a script, and the byte with which they begin.
@@ -11,12 +12,14 @@ const PARAGRAPH_SEPARATOR: &[u8] = b"\xe2\x80\xa9";
 
 const FIRST_OF_SEPARATORS: u8 = 0xe2;
 
-// Appends the text with escapes.
-pub(crate) fn put_safe(out: &mut Vec<u8>, text: &[u8]) -> Result<(), AllocError>
-    ensures { OnOk result (out.new.items ≡ out.old.items ++ safe text.now) }
+// Appends the text with escapes, and stops as soon as there is more than a page may have.
+pub(crate) fn put_safe(out: &mut Vec<u8>, text: &[u8]) -> Result<(), PageFault>
+    ensures text { OnOk result (out.new.items ≡ out.old.items ++ safe text.now) }
+    ensures full { IfErr result (IsFaultOf (out.old.items ++ safe text.now)) }
 {
     let mut rest = text;
     while !rest.is_empty() {
+        check_length(out)?;
         rest = put_some(out, rest)?;
     }
     Ok(())

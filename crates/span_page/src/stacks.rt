@@ -1,7 +1,8 @@
 //! Folded stacks as data.
-ghost use Rattle.std.specs.{List.join_with_byte, Prelude.{◌≡◌, ◌++◌, [], map, string_bytes, OnOk}};
-ghost use Rattle.span_page.specs.{json_text_of, AreAscending, folded_after, Coded.coded_after, Data.{stack_json, stacks_json}};
+ghost use Rattle.std.specs.{List.join_with_byte, Prelude.{◌≡◌, ◌++◌, [], map, string_bytes, IfErr, OnOk}};
+ghost use Rattle.span_page.specs.{json_text_of, AreAscending, folded_after, Bounds.IsFaultOf, Coded.coded_after, Data.{stack_json, stacks_json}};
 
+use crate::fault::{PageFault, check_length};
 use span_event::Text;
 use span_report::json_text;
 use span_report::stacks::StackFrame;
@@ -13,27 +14,34 @@ pub(crate) fn put_stacks(
     alloc: Global,
     out: &mut String,
     frames: &[StackFrame],
-) -> Result<(), AllocError>
+) -> Result<(), PageFault>
     requires { AreAscending [] frames.now }
-    ensures { OnOk result (string_bytes out.new
+    ensures json { OnOk result (string_bytes out.new
         ≡ string_bytes out.old ++ stacks_json (folded_after [] frames.now)) }
+    ensures full { IfErr result (IsFaultOf
+        (string_bytes out.old ++ stacks_json (folded_after [] frames.now))) }
 {
     out.push('[')?;
     put_each(alloc, out, frames)?;
-    out.push(']')
+    out.push(']')?;
+    Ok(())
 }
 
 // Appends the stacks, separated by commas. A stack begins like the last one that was appended with as many frames as are below each
-// frame since then, so no frame is appended twice, and no stack is compared with another.
-fn put_each(alloc: Global, out: &mut String, frames: &[StackFrame]) -> Result<(), AllocError>
+// frame since then, so no frame is appended twice, and no stack is compared with another. A few long labels may stand in very many
+// stacks, so it stops as soon as there is more than a page may have.
+fn put_each(alloc: Global, out: &mut String, frames: &[StackFrame]) -> Result<(), PageFault>
     requires { AreAscending [] frames.now }
-    ensures { OnOk result (string_bytes out.new ≡ string_bytes out.old
+    ensures json { OnOk result (string_bytes out.new ≡ string_bytes out.old
         ++ join_with_byte 44 (map stack_json (coded_after [] (folded_after [] frames.now)))) }
+    ensures full { IfErr result (IsFaultOf (string_bytes out.old
+        ++ join_with_byte 44 (map stack_json (coded_after [] (folded_after [] frames.now))))) }
 {
     let mut stack = Vec::new(alloc);
     let mut shared = 0;
     let mut comma = "";
     for frame in frames {
+        check_length(out.as_bytes())?;
         frame.follow(&mut stack)?;
         shared = shared.min(frame.below);
         if frame.time > 0 {

@@ -1,18 +1,20 @@
 //! The text of a page.
-ghost use Rattle.std.specs.Prelude.{◌≡◌, length, string_bytes, IfOk};
-ghost use Rattle.span_page.specs.Page.{page_of, text_before, text_behind};
+ghost use Rattle.std.specs.Prelude.{◌≡◌, ◌≤◌, length, string_bytes, IfErr, IfOk};
+ghost use Rattle.span_page.specs.{Bounds.{IsFaultOf, most_bytes}, Page.{page_of, text_before, text_behind}};
 
 use crate::data::put_data;
+use crate::fault::{PageFault, check_length};
 use crate::fixed::{BEFORE, BEHIND};
 use span_collect::{FileEnd, Input};
 use span_event::Unit;
 use span_ledger::Ledger;
 use span_report::stacks::SpanColumn;
-use std::alloc::{AllocError, Global};
+use std::alloc::Global;
 
 /// The page of the ledger's journal, whose times are in this unit, and of the files that were told to it: a fixed text, the data as
 /// one JSON text, and another fixed text. Frames are labels by these columns, and the table of spans is a text, JSON Lines. In the
-/// data `<`, `>`, `&` and the two line separators are escapes. There is one end for each file, in order.
+/// data `<`, `>`, `&` and the two line separators are escapes. There is one end for each file, in order. A page that is too long is
+/// not made, and there was never much more of it in memory than a page may have.
 #[tactic(auto, unfolding(crate::specs::Page::page_of), using(std::proofs::Common::append_assoc))]
 pub fn page(
     alloc: Global,
@@ -22,15 +24,19 @@ pub fn page(
     ends: &[FileEnd],
     labels: &[SpanColumn],
     table: String,
-) -> Result<Vec<u8>, AllocError>
+) -> Result<Vec<u8>, PageFault>
     requires { length files.now ≡ length ends.now }
-    ensures { IfOk result (λ text. text.items
+    ensures text { IfOk result (λ text. text.items
         ≡ page_of unit labels.now (string_bytes table) files.now ends.now ledger.now.journal) }
+    ensures fits { IfOk result (λ text. length text.items ≤ most_bytes) }
+    ensures full { IfErr result (IsFaultOf
+        (page_of unit labels.now (string_bytes table) files.now ends.now ledger.now.journal)) }
 {
     let mut out = Vec::new(alloc);
     out.extend_from_slice(before().as_bytes())?;
     put_data(alloc, unit, &mut out, ledger, files, ends, labels, table)?;
     out.extend_from_slice(behind().as_bytes())?;
+    check_length(&out)?;
     Ok(out)
 }
 

@@ -14,7 +14,7 @@ returns-in-Ok-clause-json c =
     ∙ ap folded_stacks c.in_ok-spans.ensures in
     let count = c.in-Ok.ensures.count ∙ ap frame_count c.in_ok-spans.ensures in
     let within : thread_frame_count labels journal thread ≤ c.args.left = omega (arith, c.in-Ok.ensures.fits, count) in
-    c.in_ok-put_stacks-in-Ok.ensures
+    c.in_ok-put_stacks-in-Ok.ensures.json
     ∙ ap (λ (stacks : List Folded). string_bytes c.args.out.now ++ stacks_json stacks) stacks
     ∙ ap (λ (json : List ℕ). string_bytes c.args.out.now ++ json) (sym (graph-stands labels journal c.args.left thread within))
 
