@@ -3,7 +3,7 @@
 Each FILE is a run of its own, or with --add the table of one (tables.py); like these, it is written from the page alone.
 
 usage: repeats.py [--seal] [--strict] [--nanoseconds] [--of spans|async] [--add] [--top N | --json] [--by NUMBER] [--group-by COLUMNS]
-                  [--only TEXT].. [--skip TEXT].. --base FILE.. [FILE...]
+                  [--where CONDITION].. [--merge-templates] [--only TEXT].. [--skip TEXT].. --base FILE.. [FILE...]
 """
 import sys
 from dataclasses import dataclass
@@ -127,16 +127,16 @@ def json_repeats_of(sides):
 def collected(line):
     """The tables of both sides, one of each file."""
     of = ASYNC if line.of == "async" else SPANS
-    columns = of.columns_of(line.group_by or tables.usual_columns(line, of))
+    columns, narrowing = of.columns_of(line.group_by or tables.usual_columns(line, of)), tables.narrowing_of(line)
     sides = ([tables.run_of(line, [file]) for file in files] for files in (line.base, line.files))
-    return [[tables.table_of(columns, [run], True, of) for run in runs] for runs in sides]
+    return [[tables.table_of(columns, [run], True, of, narrowing) for run in runs] for runs in sides]
 
 
 def printed(line):
     """The same of files that are tables."""
     sides = tables.tables_of_files(line)
-    columns = tables.wanted_columns(line, sides[0][0])
-    return [[tables.sum_of([table], columns) for table in side] for side in sides]
+    columns, narrowing = tables.wanted_columns(line, sides[0][0]), tables.narrowing_of(line)
+    return [[tables.sum_of([table], columns, narrowing) for table in side] for side in sides]
 
 
 def text_of_line(line):

@@ -1,9 +1,13 @@
 """What a table sums, by docs/report.md alone: the closed spans of threads, or async keys, each with its value in a column and with its
 numbers."""
 from dataclasses import dataclass
+from functools import partial
+from itertools import repeat
 
 from ledger import self_times
-from reading import is_whole
+from narrowing import ALL, ARGUMENT, PARENT
+from parents import parents_of
+from values import MISSING, argument_value, name_value, whole, words
 
 MOST_COLUMNS = 8
 # The numbers that are times.
@@ -12,11 +16,12 @@ TIMES = ("self", "total")
 
 @dataclass(frozen=True)
 class Of:
-    """What a table sums: its columns, but for those of arguments; and its numbers as they stand in JSON Lines, in a ranking and on each
-    side of a comparison, and in the order in which changes go by them. Rows go by the first of these, where none is named."""
+    """What a table sums: its columns, but for those of arguments, and what these begin with; and its numbers as they stand in JSON Lines,
+    in a ranking and on each side of a comparison, and in the order in which changes go by them. Rows go by the first of these, where none
+    is named."""
 
     columns: tuple
-    has_arguments: bool
+    arguments: tuple
     numbers: tuple
     ranked: tuple
     compared: tuple
@@ -31,7 +36,8 @@ class Of:
         return sums[self.numbers.index(name)]
 
     def has_column(self, column):
-        return column in self.columns or self.has_arguments and column.startswith("args.") and column != "args."
+        has_key = column.startswith(self.arguments) and column not in self.arguments and "," not in column
+        return column in self.columns or has_key
 
     def columns_of(self, text):
         """The columns of a list with commas."""
@@ -42,8 +48,8 @@ class Of:
 
 
 SPANS = Of(
-    columns=("pid", "tid", "process", "thread", "name", "file"),
-    has_arguments=True,
+    columns=("pid", "tid", "process", "thread", "name", "file", PARENT + "name"),
+    arguments=(ARGUMENT, PARENT + ARGUMENT),
     numbers=("count", "total", "self"),
     ranked=("self", "total", "count"),
     compared=("self", "total", "count"),
@@ -52,7 +58,7 @@ SPANS = Of(
 )
 ASYNC = Of(
     columns=("cat", "scope", "id", "name", "file"),
-    has_arguments=False,
+    arguments=(),
     numbers=("closed", "total", "open", "points"),
     ranked=("total", "closed", "open", "points"),
     compared=("total", "closed", "open"),
@@ -60,38 +66,15 @@ ASYNC = Of(
     counted=("closed", "open", "points"),
 )
 
-# Values, each in a tuple with its place in the order of kinds, so that they compare as keys do.
-MISSING, NIL, OTHER = (0,), (1,), (5,)
-FLAG, WHOLE, WORDS = 2, 3, 4
 
 
-def whole(number):
-    return (WHOLE, number)
+def own_value(column, span):
+    """The value of a column that says something of a span itself."""
+    return words(span[3]) if column == "name" else argument_value(span[4], column.removeprefix(ARGUMENT))
 
 
-def words(text):
-    return (WORDS, text)
-
-
-def name_value(name):
-    return MISSING if name is None else words(name)
-
-
-def argument_value(args, key):
-    if key not in args:
-        return MISSING
-    value = args[key]
-    if value is None:
-        return NIL
-    if type(value) is bool:
-        return (FLAG, value)
-    if type(value) is str:
-        return words(value)
-    return whole(value) if is_whole(value) else OTHER
-
-
-def span_value(column, run, number, span):
-    """The value of a column at a closed span of the thread of this number."""
+def span_value(run, number, span, parent, column):
+    """The value of a column at a closed span of the thread of this number, which has this parent, or none."""
     process = run.ledger.processes[number[0]]
     if column == "file":
         return words(run.name)
@@ -101,30 +84,43 @@ def span_value(column, run, number, span):
         return name_value(process.name)
     if column == "thread":
         return name_value(process.threads[number].name)
-    return words(span[3]) if column == "name" else argument_value(span[4], column.removeprefix("args."))
+    if column.startswith(PARENT):
+        return MISSING if parent is None else own_value(column.removeprefix(PARENT), parent)
+    return own_value(column, span)
 
 
-def async_value(column, run, key):
+def async_value(run, key, column):
     """The value of a column at an async key, whose id has the process before it that it is local to."""
     category, scope, (_, *id_), name = key
     return words({"cat": category, "scope": scope, "id": ":".join(map(str, id_)), "name": name, "file": run.name}[column])
 
 
-def span_sums(columns, run):
-    """The key and the numbers of each closed span of a run."""
+def span_sums(run, has_parents):
+    """What gives the values of each closed span of a run in columns, and its numbers. Parents are looked for where a column has them."""
     for process in run.ledger.processes.values():
         for number, thread in process.threads.items():
-            for span, own in zip(thread.closed, self_times(thread.closed)):
-                yield tuple(span_value(column, run, number, span) for column in columns), (1, span[1] - span[0], own)
+            parents = parents_of(thread.closed) if has_parents else repeat(None)
+            for span, own, parent in zip(thread.closed, self_times(thread.closed), parents):
+                yield partial(span_value, run, number, span, parent), (1, span[1] - span[0], own)
 
 
-def async_sums(columns, run):
-    """The key and the numbers of each async key of a run."""
+def async_sums(run, has_parents):
+    """The same of each async key of a run, which has no parent."""
+    assert not has_parents
     for key, spans in run.ledger.async_keys.items():
-        yield tuple(async_value(column, run, key) for column in columns), (spans.closed, spans.total, len(spans.open), spans.points)
+        yield partial(async_value, run, key), (spans.closed, spans.total, len(spans.open), spans.points)
 
 
 SUMS = {SPANS: span_sums, ASYNC: async_sums}
+
+
+def keyed_sums(of, run, columns, narrowing=ALL):
+    """The key and the numbers of each span of a run that is summed by these columns."""
+    has_parents = any(column.startswith(PARENT) for column in [*columns, *narrowing.columns()])
+    for value_in, numbers in SUMS[of](run, has_parents):
+        key = narrowing.key(columns, value_in)
+        if key is not None:
+            yield key, numbers
 
 
 def added(keyed):

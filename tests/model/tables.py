@@ -4,7 +4,7 @@ JSON Lines. Files are looked for (folders.py), read and collected as for the rep
 alone. With --add they are tables, which are added up. What is said of them stands in said.py.
 
 usage: tables.py [--seal] [--strict] [--nanoseconds] [--of spans|async] [--apart | --add] [--top N | --json] [--by NUMBER]
-                 [--group-by COLUMNS] [--only TEXT].. [--skip TEXT].. [--base FILE].. [FILE...]
+                 [--group-by COLUMNS] [--where CONDITION].. [--merge-templates] [--only TEXT].. [--skip TEXT].. [--base FILE].. [FILE...]
 """
 import argparse
 import gc
@@ -14,14 +14,19 @@ from dataclasses import dataclass, field
 from json.encoder import encode_basestring as json_text
 
 from folders import STANDARD_INPUT, TABLES, TRACES, files_of
+from narrowing import ARGUMENT, PARENT, Narrowing, condition_of
 from reading import MICROSECONDS, NANOSECONDS
 from report import bytes_of, collect, first_lines, text_of
 from said import Said, Stopped
-from sums import ASYNC, MISSING, NIL, OTHER, SPANS, SUMS, TIMES, WHOLE, WORDS, Of, added, argument_value
+from sums import ASYNC, SPANS, TIMES, Of, added, keyed_sums
+from values import MISSING, NIL, OTHER, WHOLE, WORDS, argument_value
 
 RANKED_BY = "pid,tid,thread,name"
 COMPARED_BY = "process,thread,name"
 ASYNC_BY = "cat,name"
+# What the columns of arguments begin with that no span may have.
+ARGUMENTS = ARGUMENT, PARENT + ARGUMENT
+TAKES_ALL = Narrowing()
 # The rows of a ranking that isn't asked for, but meant.
 USUAL_ROWS = 20
 # Below this are the numbers of JSON Lines.
@@ -71,22 +76,23 @@ class Table:
             yield "runs {runs} files {files} unread {unread}".format(**self.counts)
 
 
-def table_of(columns, runs, says_runs=False, of=SPANS):
-    rows = added(entry for run in runs for entry in SUMS[of](columns, run))
+def table_of(columns, runs, says_runs=False, of=SPANS, narrowing=TAKES_ALL):
+    rows = added(entry for run in runs for entry in keyed_sums(of, run, columns, narrowing))
     said = sum((run.said for run in runs), Said())
     return Table(columns, all_counts([counts_of(run) for run in runs]), rows, says_runs, runs[0].ledger.unit, of, said)
 
 
-def rows_by(columns, table):
-    """The keys of a table by these of its columns, each with the numbers of a row."""
-    places = [table.columns.index(column) for column in columns]
+def rows_by(columns, table, narrowing):
+    """The keys of a table by these of its columns that are left, each with the numbers of a row."""
     for key, numbers in table.rows.items():
-        yield tuple(key[place] for place in places), numbers
+        left = narrowing.key(columns, dict(zip(table.columns, key)).get)
+        if left is not None:
+            yield left, numbers
 
 
-def sum_of(tables, columns):
+def sum_of(tables, columns, narrowing=TAKES_ALL):
     """The sum of tables, by these of their columns."""
-    rows = added(row for table in tables for row in rows_by(columns, table))
+    rows = added(row for table in tables for row in rows_by(columns, table, narrowing))
     return Table(columns, all_counts([table.counts for table in tables]), rows, unit=tables[0].unit, of=tables[0].of)
 
 
@@ -96,7 +102,7 @@ def said_beside(tables):
     said = sum((table.said for table in tables), Said())
     keys = [key for table in tables for key in table.rows]
     for place, column in enumerate(tables[0].columns):
-        if keys and column.startswith("args.") and all(key[place] == MISSING for key in keys):
+        if keys and column.startswith(ARGUMENTS) and all(key[place] == MISSING for key in keys):
             said.lack(column)
     return said
 
@@ -309,6 +315,7 @@ def text_or_none(lines):
 # The kinds of value that a column can have; an argument can have any.
 KINDS = {"pid": {WHOLE}, "tid": {WHOLE}, "process": {MISSING[0], WORDS}, "thread": {MISSING[0], WORDS}}
 KINDS |= {column: {WORDS} for column in ["name", "file", "cat", "scope", "id"]}
+KINDS |= {PARENT + "name": {MISSING[0], WORDS}}
 
 
 def printed_value(column, members):
@@ -361,14 +368,14 @@ def bytes_or_stop(path):
 
 def tables_of_files(line):
     """The tables of the base's files, and those of the others. All sum what the first does, and have its unit and its columns, and those
-    columns and the number that are asked for."""
-    tables = []
+    columns and the number that are asked for, be it by a condition."""
+    tables, conditioned = [], narrowing_of(line).columns()
     for file in [*line.base, *line.files]:
         table = table_of_file(file.path, bytes_or_stop(file.path))
         first = tables[0] if tables else table
         is_like_first = (table.of, table.unit, table.columns) == (first.of, first.unit, first.columns)
         has_number = line.by is None or line.by in first.of.numbers
-        if not is_like_first or not has_number or not set(table.columns).issuperset(wanted_columns(line, table)):
+        if not is_like_first or not has_number or not set(table.columns).issuperset([*wanted_columns(line, table), *conditioned]):
             raise Stopped(f"tracebook: {json_text(file.path)}: 54 OtherColumns")
         tables.append(table)
     return tables[: len(line.base)], tables[len(line.base) :]
@@ -384,13 +391,13 @@ def wanted_columns(line, table):
 def words_of_line(words):
     """The words of a command line, with the files of both sides, the base's looked for before the others."""
     parser = argparse.ArgumentParser(allow_abbrev=False)
-    for switch in "--seal", "--strict", "--nanoseconds", "--json", "--apart", "--add":
+    for switch in "--seal", "--strict", "--nanoseconds", "--json", "--apart", "--add", "--merge-templates":
         parser.add_argument(switch, action="store_true")
     parser.add_argument("--top", type=int)
     parser.add_argument("--of", choices=["spans", "async"])
     parser.add_argument("--by", choices=sorted({*SPANS.ranked, *ASYNC.ranked}))
     parser.add_argument("--group-by")
-    for several in "--only", "--skip", "--base":
+    for several in "--only", "--skip", "--base", "--where":
         parser.add_argument(several, action="append", default=[])
     parser.add_argument("files", nargs="*")
     line = parser.parse_args(words)
@@ -407,7 +414,17 @@ def words_of_line(words):
 
 def shapes_a_table(line):
     """Whether a table is meant, though no text is asked for."""
-    return any([line.apart, line.add, line.of, line.by, line.group_by, line.only, line.skip])
+    shapes = [line.apart, line.add, line.of, line.by, line.group_by, line.only, line.skip, line.where, line.merge_templates]
+    return any(shapes)
+
+
+def narrowing_of(line):
+    """What the words say of which spans are summed. A condition is on a column that some table may have."""
+    conditions = tuple(map(condition_of, line.where))
+    unknown = [each.column for each in conditions if not SPANS.has_column(each.column) and not ASYNC.has_column(each.column)]
+    if unknown:
+        raise ValueError(unknown)
+    return Narrowing(conditions, line.merge_templates)
 
 
 def run_of(line, files):
@@ -421,7 +438,7 @@ def run_of(line, files):
 
 def table_of_files(line, of, columns, files):
     runs = [run_of(line, [file]) for file in files] if line.apart else [run_of(line, files)]
-    return table_of(columns, runs, line.apart, of)
+    return table_of(columns, runs, line.apart, of, narrowing_of(line))
 
 
 def usual_columns(line, of):
@@ -443,7 +460,7 @@ def summed(line):
     """The same of files that are tables."""
     base, others = tables_of_files(line)
     columns = wanted_columns(line, others[0])
-    return [sum_of(tables, columns) for tables in ([base, others] if base else [others])]
+    return [sum_of(tables, columns, narrowing_of(line)) for tables in ([base, others] if base else [others])]
 
 
 def text_of_line(line):

@@ -1,0 +1,20 @@
+"""The parents of closed spans, by docs/report.md alone."""
+
+
+def rank(span):
+    """What puts closed spans (start, end, position, ..) in ascending rank."""
+    start, end, position, *_ = span
+    return start, -end, position
+
+
+def holds(other, span):
+    """Whether a closed span of the same thread holds this one."""
+    return other[0] <= span[0] and span[1] <= other[1] and rank(other) < rank(span)
+
+
+def parents_of(spans):
+    """The parent of each of the closed spans of a thread, or none: of those that hold it, the one that ranks above all others. So of the
+    spans that it ranks above, from the highest down, it is the first that holds it."""
+    ranked = sorted(spans, key=rank)
+    parents = {span[2]: next((other for other in reversed(ranked[:place]) if holds(other, span)), None) for place, span in enumerate(ranked)}
+    return [parents[span[2]] for span in spans]
