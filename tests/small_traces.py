@@ -1,6 +1,14 @@
-"""Small traces that are drawn by lot, of which some are cut off, and folders of them."""
+"""Small traces that are drawn by lot, of which some are cut off, and folders of them. Some names and arguments are like names of C++, for
+which the folder of the model is to be on the path."""
 import json
 import os
+
+from template_texts import template_text
+
+# Some of these are one, once their templates are merged.
+TEMPLATES = ["f<a>", "f<b<a>>", "f<b<a>> ", "f<b", "f<a->b>", "operator<", "operator<<a>", "operator<<b>", "my_operator<<b>>", "f<$>"]
+# Values of arguments, of which some have the same text, and others are no text at all.
+VALUES = [1, "1", -7, "x", "", None, "null", True, False, "true", 1.5, [], "...", "-", *TEMPLATES[:4]]
 
 # Names within folders, in two parts.
 STEMS = ["a", "a-", "B", "é", "z.json", "~", " ", "10", "9", "ｚ", "𝄞", "a", "b", ".", ".k"]
@@ -11,9 +19,19 @@ def time(chance, most, in_fractions):
     return chance.randrange(1_000 * most) / 1_000 if in_fractions else chance.randrange(most)
 
 
+def name_of(chance, names):
+    """One of these names, or of those that are like names of C++."""
+    kind = chance.randrange(12)
+    return template_text(chance.choice) if kind == 0 else chance.choice(TEMPLATES if kind < 4 else names)
+
+
+def arguments(chance):
+    return {key: chance.choice(VALUES) for key in chance.choice(["", "k", "k", "kl", "l", 'é"'])}
+
+
 def async_event(chance, in_fractions):
     """An event of one of a few async spans. An id that is known everywhere may be written as a table has one that is local to a process."""
-    made = {"ph": chance.choice("bbeen"), "cat": chance.choice(["c", "é"]), "name": chance.choice(["a", "ab"])}
+    made = {"ph": chance.choice("bbeen"), "cat": chance.choice(["c", "é"]), "name": name_of(chance, ["a", "ab"])}
     made |= {"pid": chance.randrange(7, 9), "ts": time(chance, 100, in_fractions)}
     made |= chance.choice([{"id": "1"}, {"id": "7:1"}, {"id2": {"local": "1"}}])
     return made | chance.choice([{}, {}, {"scope": "b"}])
@@ -24,13 +42,13 @@ def event(chance, in_fractions, process):
         return async_event(chance, in_fractions)
     process = 7 if process is None else process
     phase = chance.choice("BEXXM")
-    name = chance.choice(["a", "ab", "b", "é"])
+    name = name_of(chance, ["a", "ab", "b", "é"])
     if phase == "M":
         return {"ph": "M", "name": "process_name", "pid": process, "tid": 1, "args": {"name": name}}
     made = {"ph": phase, "name": name, "pid": process, "tid": chance.randrange(2), "ts": time(chance, 100, in_fractions)}
     if phase == "X":
-        made |= {"dur": time(chance, 20, in_fractions), "args": {"k": chance.choice([1, "x", None, 1.5])}}
-    return made
+        made |= {"dur": time(chance, 20, in_fractions)}
+    return made | ({"args": arguments(chance)} if chance.randrange(4) else {})
 
 
 def trace(chance, in_fractions, process=None):

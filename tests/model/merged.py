@@ -1,5 +1,6 @@
 """The merged texts of names with templates, by docs/report.md alone."""
 import re
+from functools import cache
 
 # What counts as other bytes: an operator that follows its word directly, of which the longest is meant, and an arrow anywhere. A word has
 # letters, digits, underscores, and characters beyond ASCII.
@@ -18,6 +19,7 @@ def match_of(brackets, place):
     return None
 
 
+@cache
 def merged(text):
     # The same text, in which what counts as other bytes is neither of the two.
     brackets = OTHERS.sub(lambda found: NEITHER * len(found[0]), text)

@@ -400,7 +400,7 @@ def words_of_line(words):
     for several in "--only", "--skip", "--base", "--where":
         parser.add_argument(several, action="append", default=[])
     parser.add_argument("files", nargs="*")
-    line = parser.parse_args(words)
+    line = parser.parse_intermixed_args(words)
     line.files = line.files or [STANDARD_INPUT]
     if [*line.base, *line.files].count(STANDARD_INPUT) > 1:
         parser.error("standard input is read once at most")

@@ -15,6 +15,7 @@ import sys
 
 from elements import OTHERS, faults_in, odd_events_in
 from reading import MOST_64
+from template_texts import template_text
 from times import FractionTimes, WholeTimes
 
 PARTS = 4
@@ -75,10 +76,11 @@ def json_form(draw, text):
 
 
 def different_texts(draw, count):
-    """Texts as JSON, of up to 40 bytes, most of some 16."""
+    """Texts as JSON, of up to 40 bytes, most of some 16; some are like names of C++, which may be longer."""
     texts = dict.fromkeys(["", "a"])
     while len(texts) < count:
-        texts[text_of_bytes(draw, draw.below(40) if draw.whether(0.3) else 12 + draw.below(9))] = None
+        size = draw.below(40) if draw.whether(0.3) else 12 + draw.below(9)
+        texts[template_text(draw.of) if draw.whether(0.2) else text_of_bytes(draw, size)] = None
     return [json_form(draw, text) for text in texts]
 
 
@@ -88,6 +90,7 @@ def args_forms(draw):
     values += ["1.5", "-0", "[1,{}]", '{"b":[]}', str(2**64), "1e300"]
     forms = [""] * 600 + [',"args":{}', ',"args":null', ',"args":[]', ',"args":"text"']
     forms += [f',"args":{{"detail":{value}}}' for value in values * 8]
+    forms += [f',"args":{{"detail":{json_form(draw, template_text(draw.of))}}}' for _ in range(60)]
     for size in [1, 2, 3] * 60 + [16, 17, 40, 300]:
         members = [f'"{draw.of(LETTERS[:26])}{draw.below(2 * size)}":{draw.of(values)}' for _ in range(size)]
         forms.append(f',"args":{{{",".join(members)}}}')
