@@ -1,0 +1,1 @@
+printf '%s' '[{"ph":"M","name":"process_name","pid":1,"args":{"name":"p<a>"}},{"ph":"M","name":"thread_name","pid":1,"tid":1,"args":{"name":"t<b>"}},{"ph":"X","name":"x","ts":0,"dur":5,"pid":1,"tid":1}]' > "$1/f<a>.json"
