@@ -1,6 +1,6 @@
 # Completes the command line of tracebook in bash: its options, the words that follow them, and files.
 
-_tracebook_options="--limit --nanoseconds --seal --strict --top --by --of --group-by --only --skip --json --apart --repeats --jobs --add --files-from --refused --folded --page --base --help --version"
+_tracebook_options="--limit --nanoseconds --seal --strict --top --by --of --group-by --where --merge-templates --only --skip --json --apart --repeats --jobs --add --files-from --refused --folded --page --base --help --version"
 
 _tracebook() {
     local word=${COMP_WORDS[COMP_CWORD]} before=${COMP_WORDS[COMP_CWORD-1]} earlier of=spans numbers names columns
@@ -17,10 +17,10 @@ _tracebook() {
         [[ $earlier == "async" || $earlier == "--add" ]] && of=$earlier
     done
     case $of in
-        spans) numbers="self total count" names="pid tid process thread name file args." ;;
+        spans) numbers="self total count" names="pid tid process thread name file args. parent.name parent.args." ;;
         async) numbers="total closed open points" names="cat scope id name file" ;;
         # Tables that are added say themselves what they sum.
-        --add) numbers="self total count closed open points" names="pid tid process thread name file cat scope id args." ;;
+        --add) numbers="self total count closed open points" names="pid tid process thread name file cat scope id args. parent.name parent.args." ;;
     esac
     case $before in
         --of) mapfile -t COMPREPLY < <(compgen -W "spans async" -- "$word") ;;
@@ -30,6 +30,10 @@ _tracebook() {
             columns=${word%"${word##*,}"}
             compopt -o nospace 2>/dev/null
             mapfile -t COMPREPLY < <(compgen -P "$columns" -W "$names" -- "${word##*,}")
+            ;;
+        --where)
+            compopt -o nospace 2>/dev/null
+            mapfile -t COMPREPLY < <(compgen -W "$names" -- "$word")
             ;;
         --limit | --top | --jobs | --only | --skip) compopt +o default 2>/dev/null ;;
         --base | --files-from) ;;
