@@ -32,16 +32,20 @@ from typing import Optional
 NAME = "tracebook_dask"
 PROGRAM = "tracebook"
 # The options of the program that have a value, and this command's own, with what their values are called.
-VALUED = {"--limit", "--top", "--by", "--of", "--base", "--jobs", "--group-by", "--only", "--skip", "--files-from"}
+VALUED = {"--limit", "--top", "--by", "--of", "--base", "--jobs", "--group-by", "--where", "--only", "--skip", "--files-from"}
 OWN = {"--scheduler": "<ADDRESS>", "--workers": "<N>", "--parts": "<FOLDER>"}
-LIST = "--files-from"
+LIST, WHERE = "--files-from", "--where"
 # Those that tables follow from, and those that only the text follows from.
-OF_TABLES = ("--of", "--limit", "--nanoseconds", "--seal", "--strict")
+OF_TABLES = ("--of", WHERE, "--merge-templates", "--limit", "--nanoseconds", "--seal", "--strict")
 OF_TEXT = ("--json", "--top", "--by", "--only", "--skip")
 # What is a FILE's own, and the file that standard input is kept in, with one byte more than a trace may have.
 STANDARD_INPUT, GIVEN, MOST_GIVEN = "-", "given", (64 << 20) + 1
 # How the names of traces end that stand for the folder that they are in.
 ENDING = b".json"
+# A condition on the column `file`, and one that no file meets, since none has an empty name.
+OF_FILE, UNMET = re.compile("file(!?[=~])(.*)", re.DOTALL), "file="
+# What the columns of arguments begin with.
+ARGUMENTS = ("args.", "parent.args.")
 # The columns without --group-by, as the program has them.
 RANKED_BY = "pid,tid,thread,name"
 COMPARED_BY = "process,thread,name"
@@ -93,10 +97,11 @@ All other options are those of tracebook --apart, but for --jobs and --page.
 
 @dataclass(frozen=True)
 class Trace:
-    """A file, the path of the part that is kept of it, if parts are kept, and what it will cost, in bytes; and where standard input is
-    kept, if it is that."""
+    """A file, the flags by which it meets conditions on its name or doesn't, the path of the part that is kept of it, if parts are kept,
+    and what it will cost, in bytes; and where standard input is kept, if it is that."""
 
     name: str
+    flags: list
     part: Optional[str]
     cost: int
     given: Optional[str] = None
@@ -108,7 +113,7 @@ class Trace:
 
 @dataclass(frozen=True)
 class Work:
-    """What every task is given: the folder in which names begin, one for what isn't kept, the flags that tables follow from, what the
+    """What every task is given: the folder in which names begin, one for what isn't kept, the flags that all tables follow from, what the
     head of a file's table says of them, the program that all are to run, and the folder of parts, if they are kept."""
 
     place: str
@@ -207,8 +212,8 @@ def said_of(text):
 
 
 def collect(work, traces):
-    """The sum of files that are read. What stops it is said with a file's name."""
-    names, words = names_of(traces), ["--apart", "--jobs=1", *work.flags]
+    """The sum of files that are read, all of which have the same flags. What stops it is said with a file's name."""
+    names, words = names_of(traces), ["--apart", "--jobs=1", *work.flags, *traces[0].flags]
     collected = run_alone(work, words, traces[0]) if traces[0].is_alone() else run_on_list(work, words, names)
     if collected.status != STOPPED or last_line(collected.said.lines).startswith(f'{PROGRAM}: "'):
         return collected
@@ -397,6 +402,21 @@ def entries_of(folder):
     return files, [entry.path for entry in shown if entry.is_dir(follow_symlinks=False)]
 
 
+def is_met(condition, path):
+    """Whether a file with this path meets a condition on the column `file`."""
+    operator, text = OF_FILE.fullmatch(condition).groups()
+    return (path == text if operator.endswith("=") else text in path) != operator.startswith("!")
+
+
+def flags_of_file(side, conditions, name):
+    """The flags for conditions on the column `file`. Where that leaves out how names begin, the program, which is given whole names, can't
+    look whether a file meets them."""
+    if side.left_out:
+        is_left = all(is_met(condition, name.removeprefix(side.left_out)) for condition in conditions)
+        conditions = [] if is_left else [UNMET]
+    return [spelled(WHERE, condition) for condition in conditions]
+
+
 def keep_given(work):
     """Keeps what standard input has, where it is a FILE, and gives the path; None where it can't be read."""
     path = os.path.join(work.room, GIVEN)
@@ -410,9 +430,9 @@ def keep_given(work):
     return path
 
 
-def part_path(work, name, status):
+def part_path(work, name, flags, status):
     """The path of a file's part, which follows from the file's name, size and time, the flags, and the program."""
-    origin = [work.program, work.flags, name, os.path.abspath(name), status.st_size, status.st_mtime_ns]
+    origin = [work.program, work.flags, flags, name, os.path.abspath(name), status.st_size, status.st_mtime_ns]
     return os.path.join(work.parts, hashlib.sha256(json.dumps(origin).encode()).hexdigest() + ".jsonl")
 
 
@@ -424,30 +444,32 @@ def sizes_of_parts(work):
         return {entry.path: entry.stat().st_size if entry.is_file() else None for entry in entries if entry.name.endswith(".jsonl")}
 
 
-def traces_of(work, names, sizes, given):
-    """The files of these names, where the parts that stand have these sizes, and the first name of standard input has what is given."""
-    for name in names:
+def traces_of(work, side, conditions, sizes, given):
+    """The files of a side, of whose names there are these conditions, where the parts that stand have these sizes, and the first name of
+    standard input has what is given."""
+    for name in side.names:
+        flags = flags_of_file(side, conditions, name)
         if name == STANDARD_INPUT:
             path = given.pop() if given else None
-            yield Trace(name, None, OPENING + (os.path.getsize(path) if path else 0), path)
+            yield Trace(name, flags, None, OPENING + (os.path.getsize(path) if path else 0), path)
             continue
         try:
             status = os.stat(name)
         except OSError:
-            yield Trace(name, None, OPENING)  # The program will say why.
+            yield Trace(name, flags, None, OPENING)  # The program will say why.
             continue
-        part = None if work.parts is None else part_path(work, name, status)
+        part = None if work.parts is None else part_path(work, name, flags, status)
         size = sizes.get(part, status.st_size)
         if size is None:
             raise NoText(f"{NAME}: {quoted(name)}: its part would be {quoted(part)}, which is no file\n")
-        yield Trace(name, part, OPENING + size)
+        yield Trace(name, flags, part, OPENING + size)
 
 
 def chunks_of(traces, most):
-    """Runs of files of at most this cost, or of one file."""
+    """Runs of files with the same flags, of at most this cost, or of one file."""
     chunk, cost = [], 0
     for trace in traces:
-        if chunk and (cost + trace.cost > most or trace.is_alone() or chunk[-1].is_alone()):
+        if chunk and (cost + trace.cost > most or trace.flags != chunk[-1].flags or trace.is_alone() or chunk[-1].is_alone()):
             yield chunk
             chunk, cost = [], 0
         chunk.append(trace)
@@ -574,7 +596,7 @@ def said_of_columns(columns, tables):
     behind the column's name, which no text within a row is written like."""
     if not any(has_bytes(table, b"\n{") for table in tables):
         return ""
-    arguments = [column for column in columns.split(",") if column.startswith("args.")]
+    arguments = [column for column in columns.split(",") if column.startswith(ARGUMENTS)]
     lacking = [column for column in arguments if not any(has_bytes(table, f"{quoted(column)}:".encode()) for table in tables)]
     return "".join(f"{WARNING}no span has {quoted(column)}\n" for column in lacking)
 
@@ -849,10 +871,12 @@ def run(line):
     # All workers see the current folder, and the folder of parts.
     parts, rest = folder_of_parts(line), os.getcwd() if line.has("--scheduler") else tempfile.gettempdir()
     with room_in([rest] if parts is None else [parts, rest]) as room, client_of(line, room) as client:
-        flags = [f"--group-by={columns_of(line)}", *sorted(line.flags(OF_TABLES))]
+        of_files = [condition for condition in line.values(WHERE) if OF_FILE.fullmatch(condition)]
+        shaping = set(line.flags(OF_TABLES)).difference(spelled(WHERE, condition) for condition in of_files)
+        flags = [f"--group-by={columns_of(line)}", *sorted(shaping)]
         work = Work(os.getcwd(), room, flags, head_of(line), program, parts)
         sizes, given = sizes_of_parts(work), [keep_given(work)] if any(STANDARD_INPUT in side.names for side in sides) else []
-        traces = [list(traces_of(work, side.names, sizes, given)) for side in sides]
+        traces = [list(traces_of(work, side, of_files, sizes, given)) for side in sides]
         return print_text(line, sides, sum_files(client, work, traces))
 
 

@@ -18,7 +18,7 @@ def fail(what):
 
 
 def span(chance, place):
-    made = {"ph": "X", "name": chance.choice(["Source", "ParseClass", "a"]), "pid": chance.randrange(3), "ts": place}
+    made = {"ph": "X", "name": chance.choice(["Source", "ParseClass", "a", "f<a>", "f<b>"]), "pid": chance.randrange(3), "ts": place}
     return {**made, "dur": chance.randrange(60), "args": {"detail": f"header_{chance.randrange(12)}.h"}}
 
 

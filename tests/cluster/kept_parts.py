@@ -13,6 +13,7 @@ from loopback import PATIENCE
 CHANGED = 10
 BY_FILE = ["--json", "--group-by", "file,name"]
 BY_NOTHING = ["--json", "--group-by", "name,args.none"]
+CONDITIONS = ["--merge-templates", "--where", "args.detail~1", "--where", "file!=7.json"]
 # What makes a table of another kind than BY_FILE.
 OTHER_KINDS = [["--group-by", "name"], [*BY_FILE[1:], "--nanoseconds"], [*BY_FILE[1:], "--of", "async"]]
 # What can be under a part's name, and isn't a file.
@@ -81,6 +82,9 @@ def try_parts(bench):
     kept_run(bench, f"{CHANGED} files changed", changed)
     kept_run(bench, "the same again", [])
     kept_run(bench, "parts of other flags are kept", bench.names, words=["--seal"])
+    kept_run(bench, "parts of what conditions leave are kept", bench.names, words=CONDITIONS)
+    kept_run(bench, "parts of what conditions leave are taken", [], words=[*CONDITIONS, "--only", "a"])
+    kept_run(bench, "parts of other conditions are kept", bench.names, words=["--merge-templates", "--where", "args.detail=header_1.h"])
     kept_run(bench, "parts by a column that no span has are kept", bench.names, by=BY_NOTHING)
     kept_run(bench, "parts by a column that no span has are taken", [], words=["--skip", "a"], by=BY_NOTHING)
     kept_run(bench, "parts of async spans are kept", bench.names, words=["--of", "async"])
