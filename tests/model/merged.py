@@ -10,7 +10,7 @@ NEITHER = "x"
 
 
 def match_of(brackets, place):
-    """Where the match of a `<` is: the first place behind it up to which, both included, as many `<` as `>` stand; none, if there is none."""
+    """Where the match of a `<` is: the first place behind it up to which, both included, as many `<` as `>` stand; or none."""
     more = 0
     for end in range(place, len(brackets)):
         more += (brackets[end] == "<") - (brackets[end] == ">")

@@ -15,6 +15,7 @@ def holds(other, span):
 def parents_of(spans):
     """The parent of each of the closed spans of a thread, or none: of those that hold it, the one that ranks above all others. So of the
     spans that it ranks above, from the highest down, it is the first that holds it."""
-    ranked = sorted(spans, key=rank)
-    parents = {span[2]: next((other for other in reversed(ranked[:place]) if holds(other, span)), None) for place, span in enumerate(ranked)}
+    ranked, parents = sorted(spans, key=rank), {}
+    for place, span in enumerate(ranked):
+        parents[span[2]] = next((other for other in reversed(ranked[:place]) if holds(other, span)), None)
     return [parents[span[2]] for span in spans]
