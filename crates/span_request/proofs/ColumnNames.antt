@@ -1,41 +1,59 @@
--- Names between commas, and the columns of names.
-use Rattle.std.proofs.Common.{Bor, ◌≡◌, ◌∙◌, ◌<◌, ◌+◌, ◌&&◌, ℕ, Bool, true, false, not, cond, zero, suc, refl, sym, ap, ap₂, subst, arith, List, [], ◌∷◌, ◌++◌, map, length, take, drop, lt-ltb, slice_index_or}
-use Rattle.std.specs.List.{All, cons_option, filter_map, list_any, onto_first, slice_split}
+-- The columns of names.
+use Rattle.std.proofs.Common.{Bor, ◌≡◌, ◌∙◌, ◌<◌, ◌+◌, ◌&&◌, ℕ, Bool, true, false, not, zero, suc, refl, sym, ap, ap₂, subst, arith, List, [], ◌∷◌, ◌++◌, map, length, take, drop, lt-ltb, nat_lt, slice_index_or}
+use Rattle.std.specs.{List.{All, cons_option, filter_map, list_any}, Prelude.{Err, IfOk, IfSome, MatchOption, None, Ok, Option, Result, Some}, declared.alloc.AllocError.AllocError}
 use Rattle.std.proofs.Math.Seq.{take-suc}
-use Rattle.std.proofs.lemmas.Bool.{or_parts}
+use Rattle.std.proofs.lemmas.Bool.{and_parts}
 use Rattle.std.proofs.lemmas.List.{map-append}
 use Rattle.std.proofs.lemmas.List.Elements.{All-head, All-tail, All-nil, All-cons, All-append, filter_map-append}
-use Rattle.span_request.specs.{Argument, Bytes, Cat, Column, File, Name, Pid, Process, SpanColumn, Thread, Tid, column_name, is_column, Columns.{AreEach, has_comma, is_comma}, Tasks.label_of}
-use Rattle.span_table.specs.declared.column.Column.TheVariants.{Id, Scope}
-
-onto : (byte : ℕ) (parts : List Bytes) → is_comma byte ≡ false → list_any has_comma parts ≡ false → list_any has_comma (onto_first byte parts) ≡ false
-onto byte [] other none = rw other refl
-onto byte (part ∷ parts) other none = rw other none
-
--- no part has a comma
-pub list_any-slice_split : (text : Bytes) → list_any has_comma (slice_split is_comma text) ≡ false
-list_any-slice_split [] = refl
-list_any-slice_split (byte ∷ text) = go (is_comma byte) refl (list_any-slice_split text)
-  where
-    go : (comma : Bool) → is_comma byte ≡ comma → list_any has_comma (slice_split is_comma text) ≡ false
-        → list_any has_comma (cond comma ([] ∷ slice_split is_comma text) (onto_first byte (slice_split is_comma text))) ≡ false
-    go true e none = none
-    go false e none = onto byte (slice_split is_comma text) e none
+use Rattle.span_request.specs.{Argument, Bytes, Cat, Column, File, Name, Pid, Process, SpanColumn, Thread, Tid, column_name, is_column, Columns.{AreEach, IsNamed, NamesNone, has_comma, is_comma}, Tasks.label_of}
+use Rattle.span_table.specs.declared.column.Column.TheVariants.{Id, ParentArgument, ParentName, Scope}
 
 -- what has the name of a column, with a key and without a comma, is one
-pub is_column-named : (column : Column) (name : Bytes) → column_name column ≡ name → (column ≡ Argument [] → ⊥) → has_comma name ≡ false → is_column column ≡ true
-is_column-named (Argument []) name is some none = absurd (some refl)
-is_column-named (Argument (byte ∷ key)) name is some none =
+is_column-named : (column : Column) (name : Bytes) → column_name column ≡ name → (column ≡ Argument [] → ⊥) → (column ≡ ParentArgument [] → ⊥) → has_comma name ≡ false → is_column column ≡ true
+is_column-named (Argument []) name is some some_parent none = absurd (some refl)
+is_column-named (Argument (byte ∷ key)) name is some some_parent none =
     ap₂ (λ a b. a && b) (lt-ltb 0 (length (byte ∷ key)) (omega arith)) (ap not (ap has_comma is ∙ none))
-is_column-named Pid name is some none = refl
-is_column-named Tid name is some none = refl
-is_column-named Process name is some none = refl
-is_column-named Thread name is some none = refl
-is_column-named Name name is some none = refl
-is_column-named File name is some none = refl
-is_column-named Cat name is some none = refl
-is_column-named Scope name is some none = refl
-is_column-named Id name is some none = refl
+is_column-named (ParentArgument []) name is some some_parent none = absurd (some_parent refl)
+is_column-named (ParentArgument (byte ∷ key)) name is some some_parent none =
+    ap₂ (λ a b. a && b) (lt-ltb 0 (length (byte ∷ key)) (omega arith)) (ap not (ap has_comma is ∙ none))
+is_column-named Pid name is some some_parent none = refl
+is_column-named Tid name is some some_parent none = refl
+is_column-named Process name is some some_parent none = refl
+is_column-named Thread name is some some_parent none = refl
+is_column-named Name name is some some_parent none = refl
+is_column-named File name is some some_parent none = refl
+is_column-named Cat name is some some_parent none = refl
+is_column-named Scope name is some some_parent none = refl
+is_column-named Id name is some some_parent none = refl
+is_column-named ParentName name is some some_parent none = refl
+
+no-comma : (b : Bool) → not b ≡ true → b ≡ false
+no-comma true is = sym is
+no-comma false is = refl
+
+-- no name of a column has a comma
+pub has_comma-named : (column : Column) → is_column column ≡ true → has_comma (column_name column) ≡ false
+has_comma-named (Argument key) is = no-comma (list_any is_comma key) (and_parts (nat_lt 0 (length key)) (not (list_any is_comma key)) is).1
+has_comma-named (ParentArgument key) is = no-comma (list_any is_comma key) (and_parts (nat_lt 0 (length key)) (not (list_any is_comma key)) is).1
+has_comma-named Pid is = refl
+has_comma-named Tid is = refl
+has_comma-named Process is = refl
+has_comma-named Thread is = refl
+has_comma-named Name is = refl
+has_comma-named File is = refl
+has_comma-named Cat is = refl
+has_comma-named Scope is = refl
+has_comma-named Id is = refl
+has_comma-named ParentName is = refl
+
+-- the column that is found for a name without a comma
+pub found-named : (name : Bytes) (result : Result (Option Column) AllocError) → has_comma name ≡ false → IfOk result (λ found. IfSome found (λ column. column_name column ≡ name))
+    → IfOk result (λ found. (column : Column) → is_column column ≡ true → column_name column ≡ name → found ≡ Some column) → IfOk result (λ found. found ≡ Some (Argument []) → ⊥)
+    → IfOk result (λ found. found ≡ Some (ParentArgument []) → ⊥) → IfOk result (λ found. MatchOption found (NamesNone name) (IsNamed name))
+found-named name (Ok None) none named found some some_parent = λ column is. let same = found column is.1 is.0 in absurd cc
+found-named name (Ok (Some column)) none named found some some_parent =
+    (named, is_column-named column name named (λ is. some (ap (λ c. Some c) is)) (λ is. some_parent (ap (λ c. Some c) is)) none)
+found-named name (Err error) none named found some some_parent = tt
 
 -- the column is one
 abbrev IsColumn : Column → Type 0
@@ -53,13 +71,6 @@ AreEach-at (name ∷ names) (column ∷ columns) zero d lt each =
 AreEach-at (name ∷ names) (column ∷ columns) (suc i) d lt each =
     AreEach-at names columns i d (omega arith) (ap (drop 1) each.0, All-tail IsColumn column columns each.1)
 
--- the name at a place has no comma, if none has
-has_comma-at : (names : List (Bor Bytes)) (i : ℕ) (d : Bor Bytes) → i < length names → list_any has_comma (map (λ name. name.now) names) ≡ false
-    → has_comma (slice_index_or names i d).now ≡ false
-has_comma-at [] i d lt none = absurd (omega arith)
-has_comma-at (name ∷ names) zero d lt none = (or_parts (has_comma name.now) _ none).0
-has_comma-at (name ∷ names) (suc i) d lt none = has_comma-at names i d (omega arith) (or_parts (has_comma name.now) _ none).1
-
 -- the first elements, and one more
 pub take-next : {X : Type 0} (xs : List X) (i : ℕ) (d : X) → i < length xs → take (i + 1) xs ≡ take i xs ++ slice_index_or xs i d ∷ []
 take-next xs i d lt =
@@ -68,15 +79,13 @@ take-next xs i d lt =
 
 -- one more name, and one more column
 pub AreEach-next : (names : List (Bor Bytes)) (i : ℕ) (d : Bor Bytes) (columns new : List Column) (column : Column) → i < length names
-    → list_any has_comma (map (λ name. name.now) names) ≡ false → AreEach (map (λ name. name.now) (take i names)) columns
-    → column_name column ≡ (slice_index_or names i d).now → (column ≡ Argument [] → ⊥) → new ≡ columns ++ column ∷ []
+    → AreEach (map (λ name. name.now) (take i names)) columns → IsNamed (slice_index_or names i d).now column → new ≡ columns ++ column ∷ []
     → AreEach (map (λ name. name.now) (take (i + 1) names)) new
-AreEach-next names i d columns new column lt none each is some pushed =
-    let one : is_column column ≡ true = is_column-named column (slice_index_or names i d).now is some (has_comma-at names i d lt none) in (
-      ap (map column_name) pushed ∙ map-append column_name columns (column ∷ []) ∙ ap₂ (λ a b. a ++ b ∷ []) each.0 is
-          ∙ sym (map-append (λ name. name.now) (take i names) (slice_index_or names i d ∷ [])) ∙ sym (ap (map (λ name. name.now)) (take-next names i d lt)),
-      subst (All IsColumn) (sym pushed) (All-append IsColumn columns (column ∷ []) each.1 (All-cons IsColumn column [] one (All-nil IsColumn))),
-    )
+AreEach-next names i d columns new column lt each is pushed = (
+  ap (map column_name) pushed ∙ map-append column_name columns (column ∷ []) ∙ ap₂ (λ a b. a ++ b ∷ []) each.0 is.0
+      ∙ sym (map-append (λ name. name.now) (take i names) (slice_index_or names i d ∷ [])) ∙ sym (ap (map (λ name. name.now)) (take-next names i d lt)),
+  subst (All IsColumn) (sym pushed) (All-append IsColumn columns (column ∷ []) each.1 (All-cons IsColumn column [] is.1 (All-nil IsColumn))),
+)
 
 -- the labels of the first columns, and that of one more
 pub labels-next : (columns : List Column) (i : ℕ) (column : Column) (labels new : List SpanColumn) → i < length columns → column ≡ slice_index_or columns i column

@@ -1,4 +1,5 @@
 mod ColumnNames
+mod ConditionParts
 mod PlainWords
 mod Suited
 mod Unsound

@@ -4,7 +4,7 @@ use Rattle.std.specs.{List.list_all, Prelude.IsSomeAnd}
 use Rattle.span_options.specs.Laws.{HasOnlyFiles, PlainWordsNameFiles, is_plain}
 use Rattle.span_options.specs.Parsing.{fault, is_shown}
 use Rattle.span_options.specs.declared.parsing.Parsed.TheVariants as parsed
-use Rattle.span_request.specs.{Bytes, Options, ParsesTo, Spans, is_standard, Columns.alike, Laws.{IsReport, PlainWordsAskForReports, default_settings}, Request.{AreSound, AsksFor, IsOf}, Rules.standard_uses, Tasks.settings_of, Texts.prints_table}
+use Rattle.span_request.specs.{Bytes, Options, ParsesTo, Spans, is_standard, Asked.Asked, Columns.alike, Laws.{IsReport, PlainWordsAskForReports, default_settings}, Request.{AreSound, AsksFor, IsOf}, Rules.standard_uses, Tasks.settings_of, Texts.prints_table}
 use Rattle.span_request.specs.declared.tasks.{Request.{Request, TheVariants.{Refuse, Run, Show}}, Task.TheVariants.{Collect, Pages, Tabulate}}
 use Rattle.span_request.specs.declared.views.View.TheVariants.{Folded, Page, Refusals, Report}
 
@@ -30,18 +30,26 @@ once_standard words options plain only = rw (only.names, only.base, only.files_f
     by true = refl
     by false = refl
 
+-- a table of spans by the usual columns
+abbrev usual : Asked
+usual = record { of = Spans; columns = alike; conditions = [] }
+
 -- options that only name files break no rule
-sound : (words : List Bytes) (options : Options) → list_all is_plain words ≡ true → HasOnlyFiles words options → AreSound options Spans alike
+sound : (words : List Bytes) (options : Options) → list_all is_plain words ≡ true → HasOnlyFiles words options → AreSound options usual
 sound words options plain only = record {
   apart = rw (once_standard words options plain only, only.top, only.refused, only.folded, only.page, only.base, only.json, only.repeats, only.add) refl;
-  busy = rw (only.by, only.of, only.group_by, only.only, only.skip, only.add, only.apart, only.repeats, only.jobs) refl;
-  summed = rw (only.of) refl;
-  asked = rw (only.by, only.of, only.group_by, only.only, only.skip, only.apart, only.add, only.base, only.top, only.folded, only.page) refl;
+  busy = rw (only.by, only.of, only.group_by, only.conditions, only.merge_templates, only.only, only.skip, only.add, only.apart, only.repeats, only.jobs) refl;
+  summed = record {
+    of = rw (only.of) refl;
+    columns = rw (only.by, only.of, only.group_by, only.conditions, only.merge_templates, only.only, only.skip, only.apart, only.add, only.base, only.top, only.folded, only.page) refl;
+    conditions = rw (only.conditions) tt;
+  };
   suited = rw (only.by, only.add, only.folded, only.json) refl;
+  tested = rw (only.add) refl;
 }
 
 no_table : (words : List Bytes) (options : Options) → HasOnlyFiles words options → prints_table options ≡ false
-no_table words options only = rw (only.by, only.of, only.group_by, only.only, only.skip, only.apart, only.add, only.top, only.json, only.base) refl
+no_table words options only = rw (only.by, only.of, only.group_by, only.conditions, only.merge_templates, only.only, only.skip, only.apart, only.add, only.top, only.json, only.base) refl
 
 default : (words : List Bytes) (options : Options) → HasOnlyFiles words options → settings_of options ≡ default_settings
 default words options only = rw (only.nanoseconds, only.limit, only.seal, only.strict) refl
@@ -49,14 +57,14 @@ default words options only = rw (only.nanoseconds, only.limit, only.seal, only.s
 -- what options that only name files ask for is their report
 of_options : (words : List Bytes) (options : Options) → list_all is_plain words ≡ true → HasOnlyFiles words options → (request : Request) → IsOf options request → IsReport words request
 of_options words options plain only (Run (Collect settings (Report warns)) files) is =
-    (is.0.3.1 ∙ default words options only, is.0.3.2.1 ∙ rw (only.nanoseconds, only.files_from) refl, is.1.0 ∙ only.names, is.1.1 ∙ only.files_from)
-of_options words options plain only (Run (Collect settings Refusals) files) is = true≢false (sym is.0.3.2 ∙ only.refused)
-of_options words options plain only (Run (Collect settings (Folded labels)) files) is = true≢false (sym is.0.3.2.0 ∙ only.folded)
-of_options words options plain only (Run (Collect settings (Page view)) files) is = true≢false (sym is.0.3.2.0 ∙ only.page)
-of_options words options plain only (Run (Pages settings jobs view) files) is = true≢false (sym is.0.3.0 ∙ ap₂ (λ a b. a && b) only.page only.apart)
-of_options words options plain only (Run (Tabulate tables) files) is = true≢false (sym is.0.3.0 ∙ no_table words options only)
+    (is.0.2.1 ∙ default words options only, is.0.2.2.1 ∙ rw (only.nanoseconds, only.files_from) refl, is.1.0 ∙ only.names, is.1.1 ∙ only.files_from)
+of_options words options plain only (Run (Collect settings Refusals) files) is = true≢false (sym is.0.2.2 ∙ only.refused)
+of_options words options plain only (Run (Collect settings (Folded labels)) files) is = true≢false (sym is.0.2.2.0 ∙ only.folded)
+of_options words options plain only (Run (Collect settings (Page view)) files) is = true≢false (sym is.0.2.2.0 ∙ only.page)
+of_options words options plain only (Run (Pages settings jobs view) files) is = true≢false (sym is.0.2.0 ∙ ap₂ (λ a b. a && b) only.page only.apart)
+of_options words options plain only (Run (Tabulate tables) files) is = true≢false (sym is.0.2.0 ∙ no_table words options only)
 of_options words options plain only (Show text) is = absurd is
-of_options words options plain only (Refuse text) is = absurd (is Spans alike (sound words options plain only))
+of_options words options plain only (Refuse text) is = absurd (is usual (sound words options plain only))
 
 -- where the words have no fault, and options that they give only name files
 by_words : (words : List Bytes) → list_all is_plain words ≡ true → fault words ≡ None → ((options : Options) → ParsesTo words (parsed.Options options) → HasOnlyFiles words options)
@@ -65,7 +73,7 @@ by_words words plain none only (Run task files) asks = of_options words asks.0 p
 by_words words plain none only (Show text) asks = absurd (subst (λ kind. IsSomeAnd kind (λ k. is_shown k ≡ true)) none asks)
 by_words words plain none only (Refuse text) asks = elim asks [
   | inl refused ↦ absurd (subst (λ kind. IsSomeAnd kind (λ k. is_shown k ≡ false)) none refused)
-  | inr unsound ↦ absurd (unsound.2 Spans alike (sound words unsound.0 plain (only unsound.0 unsound.1)))
+  | inr unsound ↦ absurd (unsound.2 usual (sound words unsound.0 plain (only unsound.0 unsound.1)))
 ]
 
 pub plain-report : PlainWordsNameFiles → PlainWordsAskForReports

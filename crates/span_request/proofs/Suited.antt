@@ -7,7 +7,7 @@ use Rattle.std.proofs.lemmas.List.Splits.{length-slice_split}
 use Rattle.std.proofs.lemmas.List.Sums.{AllPass-from_list_all, list_all-from_AllPass}
 use Rattle.std.proofs.lemmas.List.Elements.{All-cons, All-nil}
 use Rattle.std.proofs.lemmas.Slice.Eq.{bytes_eq-Decides}
-use Rattle.span_request.specs.{AreColumns, AreDistinct, Async, Bytes, Column, Name, Of, Options, Spans, column_name, goes_with, is_column, Columns.{AreGiven, AreNamed, alike, has_twice, is_comma, names_in, paged, ranked, usual_columns}, Laws.{AddedTablesMayHaveThem, TablesMayHaveThem}, Rules.{is_broken, unsuited}, Texts.{are_given, most_rows}}
+use Rattle.span_request.specs.{AreColumns, AreDistinct, Async, Bytes, Column, Condition, Name, Of, Options, Spans, column_name, goes_with, is_column, Asked.Asked, Columns.{AreGiven, AreNamed, alike, has_twice, is_comma, names_in, paged, ranked, usual_columns}, Laws.{AddedTablesMayHaveThem, ConditionsMayTestThem, TablesMayHaveThem}, Rules.{is_broken, unsuited}, Texts.{are_given, most_rows}}
 use Rattle.std.proofs.lemmas.Bool.{or_parts}
 
 -- a name that is none of the others differs from each
@@ -60,14 +60,15 @@ may_have : (of : Of) (options : Options) (group_by : Option Bytes) (columns : Li
 may_have of options None columns are own = subst MayHave (sym are) (usual of options own)
 may_have of options (Some names) columns are own = named names columns are
 
+-- a rule that is kept where tables aren't added
+kept : (options : Options) → options.add ≡ false → (all : Bool) → (not options.add && not all) ≡ false → all ≡ true
+kept options own true e = refl
+kept options own false e = absurd (true≢false (sym (ap (λ add. not add && true) own) ∙ e))
+
 -- if tables aren't added, the columns are those of what is summed
-suited : (options : Options) (of : Of) (columns : List Column) → is_broken (unsuited options of columns) ≡ false → options.add ≡ false
-    → list_all (goes_with of) columns ≡ true
-suited options of columns whole own = go (list_all (goes_with of) columns) (or_parts _ _ (or_parts _ _ whole).1).0
-  where
-    go : (all : Bool) → (not options.add && not all) ≡ false → all ≡ true
-    go true e = refl
-    go false e = absurd (true≢false (sym (ap (λ add. not add && true) own) ∙ e))
+suited : (options : Options) (asked : Asked) → is_broken (unsuited options asked) ≡ false → options.add ≡ false
+    → list_all (goes_with asked.of) asked.columns ≡ true
+suited options asked whole own = kept options own (list_all (goes_with asked.of) asked.columns) (or_parts _ _ (or_parts _ _ whole).1).0
 
 -- so they are columns that a table may have, if what it sums has them
 AreColumns-suited : (of : Of) (columns : List Column) → MayHave columns → All (λ column. goes_with of column ≡ true) columns → AreColumns of columns
@@ -75,17 +76,23 @@ AreColumns-suited of columns may goes =
     record { some = may.some; few = may.few; each = AllPass-from_list_all is_column columns may.each; suited = goes; distinct = AreDistinct-once (map column_name columns) may.once }
 
 pub tables-may : TablesMayHaveThem
-tables-may options of columns sound own =
-    AreColumns-suited of columns (may_have of options options.group_by columns sound.asked own)
-    (AllPass-from_list_all (goes_with of) columns (suited options of columns sound.suited own))
+tables-may options asked sound own =
+    AreColumns-suited asked.of asked.columns (may_have asked.of options options.group_by asked.columns sound.summed.columns own)
+    (AllPass-from_list_all (goes_with asked.of) asked.columns (suited options asked sound.suited own))
 
 pub added-may : AddedTablesMayHaveThem
-added-may options of own columns sound adds goes = by options.group_by sound.asked
+added-may options own asked sound adds goes = by options.group_by sound.summed.columns
   where
     none : (of : Of) → usual_columns of options ≡ []
     none Async = rw adds refl
     none Spans = rw adds refl
 
-    by : (group_by : Option Bytes) → AreGiven of options group_by columns → (columns ≡ []) ⊎ AreColumns own columns
-    by None are = inl (are ∙ none of)
-    by (Some names) are = inr (AreColumns-suited own columns (named names columns are) goes)
+    by : (group_by : Option Bytes) → AreGiven asked.of options group_by asked.columns → (asked.columns ≡ []) ⊎ AreColumns own asked.columns
+    by None are = inl (are ∙ none asked.of)
+    by (Some names) are = inr (AreColumns-suited own asked.columns (named names asked.columns are) goes)
+
+-- so are those of conditions
+pub conditions-may : ConditionsMayTestThem
+conditions-may options asked sound own =
+    AllPass-from_list_all (λ (c : Condition). goes_with asked.of c.column) asked.conditions
+    (kept options own (list_all (λ (c : Condition). goes_with asked.of c.column) asked.conditions) (or_parts _ _ sound.tested).0)

@@ -1,8 +1,9 @@
 -- Options that break a rule.
-use Rattle.std.proofs.Common.{◌≡◌, ◌∙◌, true, false, List, [], ◌∷◌, map, Option, Some, None, ap, ap₂, arith, length, refl, subst, suc, sym, true≢false}
+use Rattle.std.proofs.Common.{◌≡◌, ◌∙◌, ◌||◌, true, List, [], ◌∷◌, map, Option, Some, None, ap, ap₂, arith, length, refl, subst, suc, sym, true≢false}
 use Rattle.std.specs.Prelude.{drop, unwrap_or}
 use Rattle.span_table_text.proofs.Determined.{column_name-injective}
-use Rattle.span_request.specs.{Bytes, Column, Of, Options, Spans, column_name, Columns.{AreAsked, AreGiven}, Numbers.of_of, Request.{AreUnsound}, Rules.{is_broken, unsuited}}
+use Rattle.span_request.specs.{Bytes, Column, Of, Options, Spans, column_name, Asked.{Asked, IsAskedBy}, Columns.{AreAsked, AreGiven}, Numbers.of_of, Request.{AreUnsound}, Rules.{is_broken, unsuited, untested}}
+use Rattle.span_request.proofs.ConditionParts.{AreConditions-once}
 
 -- what two words stand for is the same, if they are one
 one : (options : Options) (of other : Of) → of_of options ≡ Some of → of_of options ≡ Some other → of ≡ other
@@ -29,12 +30,15 @@ asked_once : (options : Options) (of : Of) (names : Option Bytes) (columns other
 asked_once options of None columns others are also = are ∙ sym also
 asked_once options of (Some names) columns others are also = same columns others (are.each.0 ∙ sym also.each.0)
 
--- columns or a number that don't suit
-pub AreUnsound-suited : (options : Options) (of : Of) (columns : List Column) → of_of options ≡ Some of → AreAsked of options columns
-    → is_broken (unsuited options of columns) ≡ true → AreUnsound options
-AreUnsound-suited options of columns is are broken other others sound =
-    let summed = one options other of sound.summed is in
-    let named : columns ≡ others = asked_once options of options.group_by columns others are (subst (λ o. AreAsked o options others) summed sound.asked) in
-    let suits : is_broken (unsuited options of columns) ≡ false =
-    ap (λ list. is_broken (unsuited options of list)) named ∙ ap (λ o. is_broken (unsuited options o others)) (sym summed) ∙ sound.suited in
-    true≢false (sym broken ∙ suits)
+-- what options ask for they ask for once
+once : (options : Options) (asked other : Asked) → IsAskedBy options asked → IsAskedBy options other → asked ≡ other
+once options asked other is also =
+    let summed = one options asked.of other.of is.of also.of in
+    let columns = asked_once options asked.of options.group_by asked.columns other.columns is.columns (subst (λ of. AreAsked of options other.columns) (sym summed) also.columns) in
+    let conditions = AreConditions-once options.conditions.items asked.conditions other.conditions is.conditions also.conditions in
+    λ i. record { of = summed i; columns = columns i; conditions = conditions i }
+
+-- columns, conditions or a number that don't suit
+pub AreUnsound-suited : (options : Options) (asked : Asked) → IsAskedBy options asked → (is_broken (unsuited options asked) || is_broken (untested options asked)) ≡ true → AreUnsound options
+AreUnsound-suited options asked is broken other sound =
+    true≢false (sym broken ∙ ap (λ a. is_broken (unsuited options a) || is_broken (untested options a)) (once options asked other is sound.summed) ∙ ap₂ (λ a b. a || b) sound.suited sound.tested)

@@ -17,6 +17,13 @@ abbrev pub has_twice : List Bytes → Bool
 has_twice [] = false
 has_twice (name ∷ names) = list_any (λ other. bytes_eq other name) names || has_twice names
 
+-- the name is that of this column, or of none
+abbrev pub IsNamed : Bytes → Column → Type 0
+IsNamed name column = (column_name column ≡ name) × (is_column column ≡ true)
+
+abbrev pub NamesNone : Bytes → Type 0
+NamesNone name = (column : Column) → IsNamed name column → ⊥
+
 -- each name is that of a column
 abbrev pub AreEach : List Bytes → List Column → Type 0
 AreEach names columns = (map column_name columns ≡ names) × All (λ column. is_column column ≡ true) columns

@@ -1,4 +1,6 @@
+pub mod Asked
 pub mod Columns
+pub mod Conditions
 pub mod Laws
 pub mod Numbers
 pub mod Request
@@ -10,5 +12,6 @@ pub use Rattle.span_report.specs.declared.stacks.label.SpanColumn.{SpanColumn}
 pub use Rattle.span_collect.specs.declared.settings.Settings.{Settings}
 pub use Rattle.span_table.specs.{Columns.{column_name, goes_with, is_argument, is_column}, Numbers.{has_number, number_named}, declared.{column.Column.{Column, TheVariants.{Argument, Cat, File, Name, Pid, Process, Thread, Tid}}, number.Number.Number, of.Of.{Of, TheVariants.{Async, Spans}}}}
 pub use Rattle.span_table_text.specs.Printed.{AreColumns, AreDistinct}
+pub use Rattle.span_narrowing.specs.declared.{conditions.Condition.Condition, narrowing.Narrowing.Narrowing}
 pub use Rattle.span_runs.specs.{Names.{is_standard, names_of}, declared.names.Named.Named}
 pub use Rattle.span_options.specs.{Laws.is_plain, Parsing.ParsesTo, declared.options.Options.Options}

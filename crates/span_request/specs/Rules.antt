@@ -1,6 +1,6 @@
 -- Which options go together, and which columns and numbers go with them: a rule a line. Each says what must not hold.
 use Rattle.std.specs.{List.{list_all, list_any}, Option.option_map_or, Prelude.{ℕ, ◌+◌, ◌==◌, ◌&&◌, ◌||◌, if◌then◌else◌, not, nat_lt, Bool, false, List, [], ◌∷◌, filter, is_some, length}}
-use Rattle.span_request.specs.{Column, Of, Options, goes_with, is_standard, Columns.{is_file, is_of_span}, Numbers.{by_of, goes_by}, Texts.{are_given, has_table, is_any, most_rows, prints_table, texts}}
+use Rattle.span_request.specs.{Condition, Options, goes_with, is_standard, Asked.Asked, Columns.{is_file, is_of_span}, Numbers.{by_of, goes_by}, Texts.{are_given, has_table, is_any, most_rows, prints_table, texts}}
 
 -- one of the rules holds
 abbrev pub is_broken : List Bool → Bool
@@ -49,6 +49,8 @@ idle options =
     (is_some options.by && not (is_some (most_rows options) || are_given options.base.items))
     ∷ (is_some options.of && not (prints_table options))
     ∷ (is_some options.group_by && not (has_table options || options.folded))
+    ∷ (are_given options.conditions.items && not (prints_table options))
+    ∷ (options.merge_templates && not (prints_table options))
     ∷ (are_given options.only.items && not (has_table options))
     ∷ (are_given options.skip.items && not (has_table options))
     ∷ (options.add && not (prints_table options))
@@ -58,12 +60,19 @@ idle options =
     ∷ []
 
 -- columns and numbers that what is summed doesn't have, or the text that is asked for; tables that are added say themselves what they sum
-abbrev pub unsuited : Options → Of → List Column → List Bool
-unsuited options of columns =
+abbrev pub unsuited : Options → Asked → List Bool
+unsuited options asked =
     (is_some options.by && not (is_some (by_of options)))
-    ∷ (not options.add && not (list_all (goes_with of) columns))
-    ∷ (list_any is_file columns && not (takes_apart options || options.add))
-    ∷ (options.folded && not (list_all is_of_span columns))
-    ∷ (not options.add && not (goes_by of (by_of options)))
+    ∷ (not options.add && not (list_all (goes_with asked.of) asked.columns))
+    ∷ (list_any is_file asked.columns && not (takes_apart options || options.add))
+    ∷ (options.folded && not (list_all is_of_span asked.columns))
+    ∷ (not options.add && not (goes_by asked.of (by_of options)))
     ∷ (options.json && is_some options.by && not options.repeats)
+    ∷ []
+
+-- columns of conditions that what is summed doesn't have
+abbrev pub untested : Options → Asked → List Bool
+untested options asked =
+    (not options.add && not (list_all (λ (c : Condition). goes_with asked.of c.column) asked.conditions))
+    ∷ (list_any (λ (c : Condition). is_file c.column) asked.conditions && not (takes_apart options || options.add))
     ∷ []

@@ -1,6 +1,6 @@
--- The task that the options ask for, by these columns.
+-- The task that the options ask for, of such a table.
 use Rattle.std.specs.{Prelude.{◌≡◌, ◌&&◌, ◌||◌, if◌then◌else◌, ℕ, Bool, true, false, List, [], ◌∷◌, Option, Some, None, filter_map, is_some, unwrap_or}, Option.option_map_or}
-use Rattle.span_request.specs.{Argument, Column, Microseconds, Name, Named, Nanoseconds, Of, Options, Settings, SpanColumn, names_of, Numbers.by_of, Rules.takes_apart, Texts.{are_given, most_rows, prints_table}}
+use Rattle.span_request.specs.{Argument, Column, Microseconds, Name, Named, Nanoseconds, Narrowing, Options, Settings, SpanColumn, names_of, Asked.Asked, Numbers.by_of, Rules.takes_apart, Texts.{are_given, most_rows, prints_table}}
 use Rattle.span_request.specs.declared.tasks.{Items.{Items, TheVariants.{Apart, Printed, Together}}, TableText.{TableText, TheVariants.{Changes, Repetitions, Table}}, Task.{Task, TheVariants.{Collect, Pages, Tabulate}}}
 use Rattle.span_request.specs.declared.views.{ComparisonForm.ComparisonForm, PageView.PageView, RepeatsForm.RepeatsForm, TableForm.{TableForm, TheVariants.{Json, Ranking}}, TableOptions.TableOptions, View.{View, TheVariants.{Folded, Page, Refusals, Report}}}
 use Rattle.span_report.specs.declared.stacks.label.SpanColumn.TheVariants as label
@@ -19,10 +19,17 @@ settings_of options = record {
   strict = options.strict;
 }
 
--- what is summed, by which columns, and which rows are shown
-abbrev pub IsOptions : Options → Of → List Column → TableOptions → Type 0
-IsOptions options of columns asked =
-    (asked.of ≡ of) × (asked.columns.items ≡ columns) × (asked.shown ≡ record { only = options.only.items; skip = options.skip.items })
+-- how a table is narrowed
+pub record IsNarrowing (options : Options) (asked : Asked) (narrowing : Narrowing) : Type 0 where
+  pub conditions : narrowing.conditions.items ≡ asked.conditions
+  pub merges : narrowing.merges ≡ options.merge_templates
+
+-- what is summed, by which columns, how it is narrowed, and which rows are shown
+pub record IsOptions (options : Options) (asked : Asked) (table : TableOptions) : Type 0 where
+  pub of : table.of ≡ asked.of
+  pub columns : table.columns.items ≡ asked.columns
+  pub narrowing : IsNarrowing options asked table.narrowing
+  pub shown : table.shown ≡ record { only = options.only.items; skip = options.skip.items }
 
 -- what a frame is called: the values of these columns that a span has for itself
 abbrev pub label_of : Column → Option SpanColumn
@@ -38,19 +45,19 @@ or_name (first ∷ more) = first ∷ more
 abbrev pub labels_of : List Column → List SpanColumn
 labels_of columns = or_name (filter_map label_of columns)
 
-abbrev pub IsPageView : Options → Of → List Column → PageView → Type 0
-IsPageView options of columns view = IsOptions options of columns view.options × (view.labels.items ≡ labels_of columns)
+abbrev pub IsPageView : Options → Asked → PageView → Type 0
+IsPageView options asked view = IsOptions options asked view.options × (view.labels.items ≡ labels_of asked.columns)
 
 -- warnings follow a report where an option other than a limit, seals and strict names is given, of which a report may have these two
 abbrev pub warns_of : Options → Bool
 warns_of options = options.nanoseconds || is_some options.files_from
 
 -- the text of one run, beside its table
-abbrev pub IsView : Options → Of → List Column → View → Type 0
-IsView options of columns (Report warns) = ((options.refused || options.folded || options.page) ≡ false) × (warns ≡ warns_of options)
-IsView options of columns Refusals = options.refused ≡ true
-IsView options of columns (Folded labels) = (options.folded ≡ true) × (labels.items ≡ labels_of columns)
-IsView options of columns (Page view) = (options.page ≡ true) × IsPageView options of columns view
+abbrev pub IsView : Options → Asked → View → Type 0
+IsView options asked (Report warns) = ((options.refused || options.folded || options.page) ≡ false) × (warns ≡ warns_of options)
+IsView options asked Refusals = options.refused ≡ true
+IsView options asked (Folded labels) = (options.folded ≡ true) × (labels.items ≡ labels_of asked.columns)
+IsView options asked (Page view) = (options.page ≡ true) × IsPageView options asked view
 
 -- what tables are gathered of
 abbrev pub items_of : Options → Items
@@ -74,13 +81,13 @@ IsText options (Repetitions of) =
     (are_given options.base.items ≡ true) × (options.repeats ≡ true) × (of.by ≡ by_of options) × (of.form ≡ repeats_form options)
     × (of.base.items ≡ names_of options.base.items)
 
-abbrev pub IsTask : Options → Of → List Column → Task → Type 0
-IsTask options of columns (Collect settings view) =
-    ((prints_table options || (options.page && options.apart)) ≡ false) × (settings ≡ settings_of options) × IsView options of columns view
-IsTask options of columns (Pages settings jobs view) =
-    ((options.page && options.apart) ≡ true) × (settings ≡ settings_of options) × (jobs ≡ options.jobs) × IsPageView options of columns view
-IsTask options of columns (Tabulate tables) =
-    (prints_table options ≡ true) × (tables.items ≡ items_of options) × (tables.jobs ≡ options.jobs) × IsOptions options of columns tables.options
+abbrev pub IsTask : Options → Asked → Task → Type 0
+IsTask options asked (Collect settings view) =
+    ((prints_table options || (options.page && options.apart)) ≡ false) × (settings ≡ settings_of options) × IsView options asked view
+IsTask options asked (Pages settings jobs view) =
+    ((options.page && options.apart) ≡ true) × (settings ≡ settings_of options) × (jobs ≡ options.jobs) × IsPageView options asked view
+IsTask options asked (Tabulate tables) =
+    (prints_table options ≡ true) × (tables.items ≡ items_of options) × (tables.jobs ≡ options.jobs) × IsOptions options asked tables.options
     × IsText options tables.text
 
 -- the files that are named

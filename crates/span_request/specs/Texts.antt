@@ -17,7 +17,8 @@ texts options = (is_some options.top && not (are_given options.base.items)) ∷ 
 -- the options that say how a table is made
 abbrev pub shapes : Options → List Bool
 shapes options =
-    is_some options.by ∷ is_some options.of ∷ is_some options.group_by ∷ are_given options.only.items ∷ are_given options.skip.items ∷ options.apart ∷ options.add ∷ []
+    is_some options.by ∷ is_some options.of ∷ is_some options.group_by ∷ are_given options.conditions.items ∷ options.merge_templates
+    ∷ are_given options.only.items ∷ are_given options.skip.items ∷ options.apart ∷ options.add ∷ []
 
 -- a table is wanted, and no text is named
 abbrev pub leaves_text : Options → Bool

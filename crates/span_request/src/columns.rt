@@ -1,6 +1,6 @@
 //! The columns of a table, as the command line names them.
-ghost use Rattle.std.specs.{List.{list_all, list_any}, Prelude.{◌≡◌, false, IfOk, map}, Str.bytes_eq};
-ghost use Rattle.span_request.specs.{goes_with, Columns.{alike, AreAsked, AreEach, AreNamed, Finds, has_comma, has_twice, is_file, is_of_span, names_in, usual_columns}, Tasks.{label_of, labels_of}};
+ghost use Rattle.std.specs.{List.{list_all, list_any}, Prelude.{◌≡◌, IfOk, MatchOption, map}, Str.bytes_eq};
+ghost use Rattle.span_request.specs.{goes_with, Columns.{alike, AreAsked, AreEach, AreNamed, Finds, IsNamed, NamesNone, has_comma, has_twice, is_file, is_of_span, names_in, usual_columns}, Tasks.{label_of, labels_of}};
 
 use crate::texts::most_rows;
 use span_options::Options;
@@ -11,17 +11,17 @@ use std::alloc::{AllocError, Global};
 const MOST: usize = 8;
 
 const RULE: &str =
-    "the columns of '--group-by' are pid, tid, process, thread, name, args.KEY, and with '--apart', '--repeats' or '--add' file: 1 to 8 of them, with commas between, none twice";
+    "the columns of '--group-by' are pid, tid, process, thread, name, args.KEY, parent.name, parent.args.KEY, and with '--apart', '--repeats' or '--add' file: 1 to 8 of them, with commas between, none twice";
 
 const ASYNC_RULE: &str =
     "the columns of '--group-by' with '--of async' are cat, scope, id, name, and with '--apart' or '--repeats' file: at least one of them, with commas between, none twice";
 
 // Said of columns that asynchronous spans alone have.
 const OTHERS_RULE: &str =
-    "the columns cat, scope, id go with '--of async' alone; others are pid, tid, process, thread, name, args.KEY";
+    "the columns cat, scope, id go with '--of async' alone; others are pid, tid, process, thread, name, args.KEY, parent.name, parent.args.KEY";
 
 const FILE_RULE: &str =
-    "the column 'file' goes with '--apart', '--repeats' and '--add' alone; others are pid, tid, process, thread, name, args.KEY";
+    "the column 'file' goes with '--apart', '--repeats' and '--add' alone; others are pid, tid, process, thread, name, args.KEY, parent.name, parent.args.KEY";
 
 const ASYNC_FILE_RULE: &str =
     "the column 'file' goes with '--apart', '--repeats' and '--add' alone; others with '--of async' are cat, scope, id, name";
@@ -142,17 +142,32 @@ fn is_among(name: &str, names: &[&str]) -> bool
 
 // Each of these is a column.
 fn columns_named(alloc: Global, names: &[&str]) -> Result<Option<Vec<Column>>, AllocError>
-    requires { list_any has_comma (map (λ name. name.now) names.now) ≡ false }
     ensures { IfOk result (Finds (AreEach (map (λ name. name.now) names.now))) }
 {
     let mut columns = Vec::new(alloc);
     for name in names {
-        let Some(column) = Column::named(alloc, name)? else {
+        let Some(column) = column_named(alloc, name)? else {
             return Ok(None);
         };
         columns.push(column)?;
     }
     Ok(Some(columns))
+}
+
+/// The column of this name. None where no column of a table may have it.
+pub(crate) fn column_named(alloc: Global, name: &str) -> Result<Option<Column>, AllocError>
+    ensures { IfOk result (λ found. MatchOption found (NamesNone name.now) (IsNamed name.now)) }
+{
+    if has_comma(name) {
+        return Ok(None);
+    }
+    Column::named(alloc, name)
+}
+
+fn has_comma(text: &str) -> bool
+    ensures { result ≡ has_comma text.now }
+{
+    text.as_bytes().iter().any(|byte| *byte == b',')
 }
 
 /// Whether what is summed has all of the columns.
@@ -169,7 +184,7 @@ pub(crate) fn have_file(columns: &[Column]) -> bool
     columns.iter().any(|column| is_file(column))
 }
 
-fn is_file(column: &Column) -> bool
+pub(crate) fn is_file(column: &Column) -> bool
     ensures { result ≡ is_file column.now }
 {
     matches!(column, Column::File)

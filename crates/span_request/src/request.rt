@@ -2,17 +2,18 @@
 ghost use Rattle.std.specs.Prelude.{◌≡◌, IfOk, MatchResult};
 ghost use Rattle.span_request.specs.{Request.{AreUnsound, Asks, AsksFor, IsOf}, Tasks.{IsOptions, IsPageView, IsTask, IsText, IsView, comparison_form, items_of, repeats_form, settings_of, table_form, warns_of}};
 
-use crate::columns::{columns_asked, labels_of, rule_of};
-use crate::numbers::{OF_RULE, by_of, of_of};
+use crate::columns::labels_of;
+use crate::numbers::by_of;
 use crate::rules::{broken_rule, takes_apart, unsuited_rule};
+use crate::summed::{Summed, summed_by};
 use crate::tasks::{Changes, Items, Repetitions, Request, TableText, Tabulation, Task};
 use crate::texts::{most_rows, prints_table};
 use crate::views::{ComparisonForm, PageView, RepeatsForm, TableForm, TableOptions, View};
 use span_collect::Settings;
 use span_event::{Text, Unit};
+use span_narrowing::Narrowing;
 use span_options::{DEFAULT_LIMIT, Options, Parsed, options_of, refusal};
 use span_runs::{Named, names_of_words};
-use span_table::{Column, Of};
 use span_table_text::Shown;
 use std::alloc::{AllocError, Global};
 
@@ -57,30 +58,23 @@ fn asked(alloc: Global, options: &Options) -> Result<Result<Task, &'static str>,
     if let Some(rule) = broken_rule(options) {
         return Ok(Err(rule));
     }
-    let Some(of) = of_of(options) else {
-        return Ok(Err(OF_RULE));
+    let summed = match summed_by(alloc, options)? {
+        Ok(summed) => summed,
+        Err(rule) => return Ok(Err(rule)),
     };
-    let Some(columns) = columns_asked(alloc, options, of)? else {
-        return Ok(Err(rule_of(of)));
-    };
-    if let Some(rule) = unsuited_rule(options, of, &columns) {
+    if let Some(rule) = unsuited_rule(options, &summed) {
         return Ok(Err(rule));
     }
-    Ok(Ok(task_of(alloc, options, of, columns)?))
+    Ok(Ok(task_of(alloc, options, summed)?))
 }
 
-fn task_of(
-    alloc: Global,
-    options: &Options,
-    of: Of,
-    columns: Vec<Column>,
-) -> Result<Task, AllocError>
-    ensures { IfOk result (IsTask options.now of columns.items) }
+fn task_of(alloc: Global, options: &Options, summed: Summed) -> Result<Task, AllocError>
+    ensures { IfOk result (IsTask options.now summed) }
 {
     let settings = settings_of(options);
     let jobs = options.jobs;
     if options.page & options.apart {
-        let view = page_view(alloc, options, of, columns)?;
+        let view = page_view(alloc, options, summed)?;
         return Ok(Task::Pages {
             settings,
             jobs,
@@ -88,13 +82,13 @@ fn task_of(
         });
     }
     if !prints_table(options) {
-        let view = view_of(alloc, options, of, columns)?;
+        let view = view_of(alloc, options, summed)?;
         return Ok(Task::Collect { settings, view });
     }
     Ok(Task::Tabulate(Tabulation {
         items: items_of(options),
         jobs,
-        options: table_options(alloc, options, of, columns)?,
+        options: table_options(alloc, options, summed)?,
         text: text_of(alloc, options)?,
     }))
 }
@@ -128,22 +122,17 @@ fn items_of(options: &Options) -> Items
 }
 
 // What is printed instead of the report.
-fn view_of(
-    alloc: Global,
-    options: &Options,
-    of: Of,
-    columns: Vec<Column>,
-) -> Result<View, AllocError>
-    ensures { IfOk result (IsView options.now of columns.items) }
+fn view_of(alloc: Global, options: &Options, summed: Summed) -> Result<View, AllocError>
+    ensures { IfOk result (IsView options.now summed) }
 {
     if options.refused {
         return Ok(View::Refusals);
     }
     if options.folded {
-        return Ok(View::Folded(labels_of(alloc, &columns)?));
+        return Ok(View::Folded(labels_of(alloc, &summed.columns)?));
     }
     if options.page {
-        return Ok(View::Page(page_view(alloc, options, of, columns)?));
+        return Ok(View::Page(page_view(alloc, options, summed)?));
     }
     let warns = warns_of(options);
     Ok(View::Report { warns })
@@ -156,32 +145,35 @@ fn warns_of(options: &Options) -> bool
     options.nanoseconds || options.files_from.is_some()
 }
 
-fn page_view(
-    alloc: Global,
-    options: &Options,
-    of: Of,
-    columns: Vec<Column>,
-) -> Result<PageView, AllocError>
-    ensures { IfOk result (IsPageView options.now of columns.items) }
+fn page_view(alloc: Global, options: &Options, summed: Summed) -> Result<PageView, AllocError>
+    ensures { IfOk result (IsPageView options.now summed) }
 {
-    let labels = labels_of(alloc, &columns)?;
-    let options = table_options(alloc, options, of, columns)?;
+    let labels = labels_of(alloc, &summed.columns)?;
+    let options = table_options(alloc, options, summed)?;
     Ok(PageView { options, labels })
 }
 
 fn table_options(
     alloc: Global,
     options: &Options,
-    of: Of,
-    columns: Vec<Column>,
+    summed: Summed,
 ) -> Result<TableOptions, AllocError>
-    ensures { IfOk result (IsOptions options.now of columns.items) }
+    ensures { IfOk result (IsOptions options.now summed) }
 {
+    let narrowing = Narrowing {
+        conditions: summed.conditions,
+        merges: options.merge_templates,
+    };
     let shown = Shown {
         only: copies(alloc, &options.only)?,
         skip: copies(alloc, &options.skip)?,
     };
-    Ok(TableOptions { of, columns, shown })
+    Ok(TableOptions {
+        of: summed.of,
+        columns: summed.columns,
+        narrowing,
+        shown,
+    })
 }
 
 fn text_of(alloc: Global, options: &Options) -> Result<TableText, AllocError>

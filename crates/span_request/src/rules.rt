@@ -1,15 +1,18 @@
 //! Which options of the command line go together, and which columns and numbers go with them.
 ghost use Rattle.std.specs.{List.list_any, Prelude.{◌≡◌, ◌<◌, ◌^◌, ◌||◌, filter, is_some, length}};
-ghost use Rattle.span_request.specs.Rules.{are_several, excluded, idle, is_broken, means_standard, standard_uses, takes_apart, unsuited};
+ghost use Rattle.span_request.specs.Rules.{are_several, excluded, idle, is_broken, means_standard, standard_uses, takes_apart, unsuited, untested};
 ghost use Rattle.span_request.specs.{is_standard};
 
 use crate::columns::{LABEL_RULE, are_of_spans, file_rule_of, go_with, have_file, others_rule_of};
+use crate::conditions::{
+    conditions_file_rule_of, conditions_go_with, conditions_have_file, conditions_others_rule_of,
+};
 use crate::numbers::{NUMBER_RULE, by_of, goes_by};
+use crate::summed::Summed;
 use crate::texts::{has_table, is_any, most_rows, prints_table, texts};
 use span_event::Text;
 use span_options::Options;
 use span_runs::is_standard;
-use span_table::{Column, Of};
 
 // Whether the rule is broken, and what is said then.
 #[derive(Clone, Copy)]
@@ -169,6 +172,14 @@ fn idle_rule(options: &Options) -> Option<&'static str>
             "the argument '--group-by <COLUMNS>' goes with '--top <N>', '--json', '--base <FILE>', '--folded' and '--page' alone",
         ),
         Rule(
+            !options.conditions.is_empty() & !table,
+            "the argument '--where <CONDITION>' goes with '--top <N>', '--json' and '--base <FILE>' alone",
+        ),
+        Rule(
+            options.merge_templates & !table,
+            "the argument '--merge-templates' goes with '--top <N>', '--json' and '--base <FILE>' alone",
+        ),
+        Rule(
             !options.only.is_empty() & !has_table(options),
             "the argument '--only <TEXT>' goes with '--top <N>', '--json', '--base <FILE>' and '--page' alone",
         ),
@@ -196,10 +207,12 @@ fn idle_rule(options: &Options) -> Option<&'static str>
 }
 
 /// What is said of columns or a number that what is summed doesn't have, or the text that is asked for.
-pub(crate) fn unsuited_rule(options: &Options, of: Of, columns: &[Column]) -> Option<&'static str>
-    ensures { is_some result ≡ is_broken (unsuited options.now of columns.now) }
+pub(crate) fn unsuited_rule(options: &Options, summed: &Summed) -> Option<&'static str>
+    ensures { is_some result ≡ (is_broken (unsuited options.now summed.now)
+        || is_broken (untested options.now summed.now)) }
 {
-    first_broken(&[
+    let (of, columns) = (summed.of, &summed.columns);
+    let rule = first_broken(&[
         Rule(options.by.is_some() & by_of(options).is_none(), NUMBER_RULE),
         Rule(!options.add & !go_with(of, columns), others_rule_of(of)),
         Rule(
@@ -211,6 +224,27 @@ pub(crate) fn unsuited_rule(options: &Options, of: Of, columns: &[Column]) -> Op
         Rule(
             options.json & options.by.is_some() & !options.repeats,
             "the argument '--json' cannot be used with '--by <SUM>'",
+        ),
+    ]);
+    match rule {
+        Some(rule) => Some(rule),
+        None => untested_rule(options, summed),
+    }
+}
+
+// What is said of columns of conditions that what is summed doesn't have.
+fn untested_rule(options: &Options, summed: &Summed) -> Option<&'static str>
+    ensures { is_some result ≡ is_broken (untested options.now summed.now) }
+{
+    let (of, conditions) = (summed.of, &summed.conditions);
+    first_broken(&[
+        Rule(
+            !options.add & !conditions_go_with(of, conditions),
+            conditions_others_rule_of(of),
+        ),
+        Rule(
+            conditions_have_file(conditions) & !(takes_apart(options) | options.add),
+            conditions_file_rule_of(of),
         ),
     ])
 }

@@ -21,13 +21,15 @@ pub(crate) fn texts(options: &Options) -> [bool; 5]
 }
 
 // Which options say how a table is made.
-fn shapes(options: &Options) -> [bool; 7]
+fn shapes(options: &Options) -> [bool; 9]
     ensures { result ≡ shapes options.now }
 {
     [
         options.by.is_some(),
         options.of.is_some(),
         options.group_by.is_some(),
+        !options.conditions.is_empty(),
+        options.merge_templates,
         !options.only.is_empty(),
         !options.skip.is_empty(),
         options.apart,

@@ -2,6 +2,7 @@
 ghost use Rattle.std.specs.Prelude.{◌≡◌};
 ghost use Rattle.span_request.specs.Numbers.{changes_by, table_by};
 
+use span_narrowing::Narrowing;
 use span_report::stacks::SpanColumn;
 use span_table::{Column, Number, Of};
 use span_table_text::Shown;
@@ -26,12 +27,14 @@ pub struct PageView {
     pub labels: Vec<SpanColumn>,
 }
 
-/// Which table is printed: what is summed, by which columns, and which rows are shown. Tables that are added say themselves what they
-/// sum, and no columns are all of theirs.
+/// Which table is printed: what is summed, by which columns, how it is narrowed, and which rows are shown. Tables that are added say
+/// themselves what they sum, and no columns are all of theirs.
 #[derive(Drop)]
 pub struct TableOptions {
     pub of: Of,
+    /// Those that are printed; those of conditions are summed beside them.
     pub columns: Vec<Column>,
+    pub narrowing: Narrowing,
     pub shown: Shown,
 }
 

@@ -1,19 +1,13 @@
 use Rattle.std.proofs.Common.{◌≡◌, ◌∙◌, ◌≤◌, List, false, length, map, ap, subst, sym, None, Option, Some, Vec, Global}
-use Rattle.std.specs.List.{list_any}
 use Rattle.std.proofs.lemmas.List.{length-map}
 use Rattle.std.proofs.lemmas.Result.{IfOk-weaker}
-use Rattle.span_request.specs.{Bytes, Column, Columns.{AreEach, AreNamed, Finds, has_comma, has_twice, names_in}}
-use Rattle.span_request.proofs.ColumnNames.{list_any-slice_split}
+use Rattle.span_request.specs.{Bytes, Column, Columns.{AreEach, AreNamed, Finds, has_twice, names_in}}
 use Rattle.span_request.proofs.columns.columns_of.Goals as goal
 
 -- at most eight names, of which none comes twice, are those of the same columns
 found : (names : List Bytes) → length names ≤ 8 → has_twice names ≡ false → (columns : Option (Vec Column Global)) → Finds (AreEach names) columns → Finds (AreNamed names) columns
 found names few once (Some columns) each = record { each = each; few = few; once = once }
 found names few once None none = λ columns named. none columns named.each
-
-pub columns_named-requires : goal.columns_named-requires
-columns_named-requires c = ap (λ names. list_any has_comma (map (λ name. name.now) names)) c.deref-2.ensures.value ∙ ap (list_any has_comma) c.in_ok-names.ensures
-    ∙ list_any-slice_split c.args.text.now
 
 pub returns : goal.returns
 returns c =

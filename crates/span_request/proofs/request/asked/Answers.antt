@@ -1,28 +1,32 @@
-use Rattle.std.proofs.Common.{◌∙◌, is_some, ap, subst, sym}
-use Rattle.span_request.specs.{Columns.{AreAsked, Finds}, Rules.{excluded, idle, is_broken, unsuited}}
-use Rattle.std.proofs.lemmas.Bool.{or_parts}
+use Rattle.std.proofs.{Common.{subst, sym}, lemmas.Bool.or_parts}
+use Rattle.std.specs.Prelude.{MatchResult}
+use Rattle.span_request.specs.{Asked.{AskNothing, IsAskedBy}, Rules.{excluded, idle, is_broken, unsuited, untested}}
 use Rattle.span_request.proofs.Unsound.{AreUnsound-suited}
 use Rattle.span_request.proofs.request.asked.Goals as goal
 
+pub returns-in-Err : goal.returns-in-Err
+returns-in-Err c = λ asked sound.
+    let options = c.args.options.now in
+    subst (λ found. MatchResult found (IsAskedBy options) (λ rule. AskNothing options)) c.in-Err.is c.in_ok-summed.ensures asked sound.summed
+
 pub returns-in-Some-unsuited_rule : goal.returns-in-Some-unsuited_rule
-returns-in-Some-unsuited_rule c = AreUnsound-suited c.args.options.now c.in-Some-of_of.of c.in-Some-2.columns.items (sym c.of_of.ensures ∙ c.in-Some-of_of.is)
-    (subst (Finds (AreAsked c.in-Some-of_of.of c.args.options.now)) c.in-Some-2.is c.in_ok-columns.ensures)
-    (sym (ap (λ columns. is_broken (unsuited c.args.options.now c.in-Some-of_of.of columns)) c.deref.ensures.value)
-    ∙ sym c.unsuited_rule.ensures ∙ ap (λ rule. is_some rule) c.in-Some-unsuited_rule.is)
+returns-in-Some-unsuited_rule c =
+    let options = c.args.options.now in
+    AreUnsound-suited options c.in-Ok.summed (subst (λ found. MatchResult found (IsAskedBy options) (λ rule. AskNothing options)) c.in-Ok.is c.in_ok-summed.ensures)
+    (sym c.in-Some-unsuited_rule.ensures)
 
 pub returns : goal.returns
 returns c =
-    let whole = or_parts (is_broken (excluded c.args.options.now)) (is_broken (idle c.args.options.now))
-    (sym c.broken_rule.ensures ∙ ap (λ rule. is_some rule) c.in_default.is) in (
-      c.in-Some-of_of.of,
-      c.in-Some-2.columns.items,
+    let options = c.args.options.now in
+    let whole = or_parts (is_broken (excluded options)) (is_broken (idle options)) (sym c.in_default.ensures) in
+    let suits = or_parts (is_broken (unsuited options c.in-Ok.summed)) (is_broken (untested options c.in-Ok.summed)) (sym c.in_default-unsuited_rule.ensures) in (
+      c.in-Ok.summed,
       record {
         apart = whole.0;
         busy = whole.1;
-        summed = sym c.of_of.ensures ∙ c.in-Some-of_of.is;
-        asked = subst (Finds (AreAsked c.in-Some-of_of.of c.args.options.now)) c.in-Some-2.is c.in_ok-columns.ensures;
-        suited = sym (ap (λ columns. is_broken (unsuited c.args.options.now c.in-Some-of_of.of columns)) c.deref.ensures.value)
-            ∙ sym c.unsuited_rule.ensures ∙ ap (λ rule. is_some rule) c.in_default-unsuited_rule.is;
+        summed = subst (λ found. MatchResult found (IsAskedBy options) (λ rule. AskNothing options)) c.in-Ok.is c.in_ok-summed.ensures;
+        suited = suits.0;
+        tested = suits.1;
       },
       c.in_ok-task_of.ensures,
     )
