@@ -1,4 +1,4 @@
 mod Adding
-mod Plain
+pub mod Plain
 mod Shown
-mod Suited
+pub mod Suited
