@@ -32,7 +32,8 @@ are cat, scope, id, name, and with --apart or --repeats file; without
 
 pub(crate) const GROUP_BY_HELP: &str =
     r#"Sum the spans of a table by these columns, 1 to 8 of them: pid, tid,
-process, thread, name, args.KEY (an argument of the span), and with
+process, thread, name, args.KEY (an argument of the span), parent.name
+and parent.args.KEY (of the span that it lies within), and with
 --apart or --repeats file; with --add keep just these columns of the
 tables; with --top, --json, --base and --page. With --folded, and in
 the graphs of --page, name and args.KEY say what a frame is called"#;
@@ -47,7 +48,8 @@ hold; with --top, --json and --base"#;
 pub(crate) const MERGE_TEMPLATES_HELP: &str =
     r#"Leave out what stands between the < and > of templates in names and
 arguments, so that std::map<int, foo<bar>>::at is std::map<$>::at,
-before --where, --only and --skip; with --top, --json and --base"#;
+before --where, --only and --skip; with --top, --json, --base,
+--folded and --page"#;
 
 pub(crate) const APART_HELP: &str =
     r#"Take each FILE as a run of its own, whatever processes they share, and

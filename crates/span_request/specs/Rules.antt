@@ -50,7 +50,7 @@ idle options =
     ∷ (is_some options.of && not (prints_table options))
     ∷ (is_some options.group_by && not (has_table options || options.folded))
     ∷ (are_given options.conditions.items && not (prints_table options))
-    ∷ (options.merge_templates && not (prints_table options))
+    ∷ (options.merge_templates && not (has_table options || options.folded))
     ∷ (are_given options.only.items && not (has_table options))
     ∷ (are_given options.skip.items && not (has_table options))
     ∷ (options.add && not (prints_table options))

@@ -1,5 +1,5 @@
 -- The task that the options ask for, of such a table.
-use Rattle.std.specs.{Prelude.{◌≡◌, ◌&&◌, ◌||◌, if◌then◌else◌, ℕ, Bool, true, false, List, [], ◌∷◌, Option, Some, None, filter_map, is_some, unwrap_or}, Option.option_map_or}
+use Rattle.std.specs.{Prelude.{◌≡◌, ◌&&◌, ◌||◌, if◌then◌else◌, ℕ, Bool, true, false, List, [], ◌∷◌, Option, Some, None, filter_map, is_some, map, unwrap_or}, Option.option_map_or}
 use Rattle.span_request.specs.{Argument, Column, Microseconds, Name, Named, Nanoseconds, Narrowing, Options, Settings, SpanColumn, names_of, Asked.Asked, Numbers.by_of, Rules.takes_apart, Texts.{are_given, most_rows, prints_table}}
 use Rattle.span_request.specs.declared.tasks.{Items.{Items, TheVariants.{Apart, Printed, Together}}, TableText.{TableText, TheVariants.{Changes, Repetitions, Table}}, Task.{Task, TheVariants.{Collect, Pages, Tabulate}}}
 use Rattle.span_request.specs.declared.views.{ComparisonForm.ComparisonForm, PageView.PageView, RepeatsForm.RepeatsForm, TableForm.{TableForm, TheVariants.{Json, Ranking}}, TableOptions.TableOptions, View.{View, TheVariants.{Folded, Page, Refusals, Report}}}
@@ -45,8 +45,18 @@ or_name (first ∷ more) = first ∷ more
 abbrev pub labels_of : List Column → List SpanColumn
 labels_of columns = or_name (filter_map label_of columns)
 
+-- the same with templates merged
+abbrev pub merged_label : SpanColumn → SpanColumn
+merged_label label.Name = label.MergedName
+merged_label (label.Argument key) = label.MergedArgument key
+merged_label merged = merged
+
+-- merged where the options ask for it
+abbrev pub asked_labels : Options → List Column → List SpanColumn
+asked_labels options columns = if options.merge_templates then map merged_label (labels_of columns) else labels_of columns
+
 abbrev pub IsPageView : Options → Asked → PageView → Type 0
-IsPageView options asked view = IsOptions options asked view.options × (view.labels.items ≡ labels_of asked.columns)
+IsPageView options asked view = IsOptions options asked view.options × (view.labels.items ≡ asked_labels options asked.columns)
 
 -- warnings follow a report where an option other than a limit, seals and strict names is given, of which a report may have these two
 abbrev pub warns_of : Options → Bool
@@ -56,7 +66,7 @@ warns_of options = options.nanoseconds || is_some options.files_from
 abbrev pub IsView : Options → Asked → View → Type 0
 IsView options asked (Report warns) = ((options.refused || options.folded || options.page) ≡ false) × (warns ≡ warns_of options)
 IsView options asked Refusals = options.refused ≡ true
-IsView options asked (Folded labels) = (options.folded ≡ true) × (labels.items ≡ labels_of asked.columns)
+IsView options asked (Folded labels) = (options.folded ≡ true) × (labels.items ≡ asked_labels options asked.columns)
 IsView options asked (Page view) = (options.page ≡ true) × IsPageView options asked view
 
 -- what tables are gathered of

@@ -1,6 +1,6 @@
 //! The columns of a table, as the command line names them.
 ghost use Rattle.std.specs.{List.{list_all, list_any}, Prelude.{◌≡◌, IfOk, MatchOption, map}, Str.bytes_eq};
-ghost use Rattle.span_request.specs.{goes_with, Columns.{alike, AreAsked, AreEach, AreNamed, Finds, IsNamed, NamesNone, has_comma, has_twice, is_file, is_of_span, names_in, usual_columns}, Tasks.{label_of, labels_of}};
+ghost use Rattle.span_request.specs.{goes_with, Columns.{alike, AreAsked, AreEach, AreNamed, Finds, IsNamed, NamesNone, has_comma, has_twice, is_file, is_of_span, names_in, usual_columns}, Tasks.{asked_labels, label_of, labels_of, merged_label}};
 
 use crate::texts::most_rows;
 use span_options::Options;
@@ -203,8 +203,8 @@ fn is_of_span(column: &Column) -> bool
     matches!(column, Column::Name | Column::Argument(_))
 }
 
-/// The columns in which a span has a value of its own, by which frames are labelled; where there is none, its name.
-pub(crate) fn labels_of(alloc: Global, columns: &[Column]) -> Result<Vec<SpanColumn>, AllocError>
+// The columns in which a span has a value of its own, by which frames are labelled; where there is none, its name.
+fn labels_of(alloc: Global, columns: &[Column]) -> Result<Vec<SpanColumn>, AllocError>
     ensures { IfOk result (λ labels. labels.items ≡ labels_of columns.now) }
 {
     let mut labels = Vec::new(alloc);
@@ -217,6 +217,36 @@ pub(crate) fn labels_of(alloc: Global, columns: &[Column]) -> Result<Vec<SpanCol
         labels.push(SpanColumn::Name)?;
     }
     Ok(labels)
+}
+
+/// The labels that the options ask for by these columns, with templates merged or not.
+pub(crate) fn asked_labels(
+    alloc: Global,
+    options: &Options,
+    columns: &[Column],
+) -> Result<Vec<SpanColumn>, AllocError>
+    ensures { IfOk result (λ labels. labels.items ≡ asked_labels options.now columns.now) }
+{
+    let labels = labels_of(alloc, columns)?;
+    if !options.merge_templates {
+        return Ok(labels);
+    }
+    let mut merged = Vec::with_capacity(alloc, labels.len())?;
+    for label in &labels {
+        merged.push(merged_label(alloc, label)?)?;
+    }
+    Ok(merged)
+}
+
+fn merged_label(alloc: Global, label: &SpanColumn) -> Result<SpanColumn, AllocError>
+    ensures { IfOk result (λ merged. merged ≡ merged_label label.now) }
+{
+    Ok(match label {
+        SpanColumn::Name | SpanColumn::MergedName => SpanColumn::MergedName,
+        SpanColumn::Argument(key) | SpanColumn::MergedArgument(key) => {
+            SpanColumn::MergedArgument(key.try_clone(alloc)?)
+        }
+    })
 }
 
 fn label_of(alloc: Global, column: &Column) -> Result<Option<SpanColumn>, AllocError>

@@ -63,7 +63,7 @@ pub(crate) fn conditions_of(
     words: &[Text],
 ) -> Result<Result<Vec<Condition>, &'static str>, AllocError>
     ensures { IfOk result (λ found. MatchResult found
-        (λ made. AreConditions words.now made.items) (λ rule. AreNoConditions words.now)) }
+        (λ conditions. AreConditions words.now conditions.items) (λ rule. AreNoConditions words.now)) }
 {
     let mut conditions = Vec::new(alloc);
     for word in words {

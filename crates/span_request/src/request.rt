@@ -2,7 +2,7 @@
 ghost use Rattle.std.specs.Prelude.{◌≡◌, IfOk, MatchResult};
 ghost use Rattle.span_request.specs.{Request.{AreUnsound, Asks, AsksFor, IsOf}, Tasks.{IsOptions, IsPageView, IsTask, IsText, IsView, comparison_form, items_of, repeats_form, settings_of, table_form, warns_of}};
 
-use crate::columns::labels_of;
+use crate::columns::asked_labels;
 use crate::numbers::by_of;
 use crate::rules::{broken_rule, takes_apart, unsuited_rule};
 use crate::summed::{Summed, summed_by};
@@ -129,7 +129,7 @@ fn view_of(alloc: Global, options: &Options, summed: Summed) -> Result<View, All
         return Ok(View::Refusals);
     }
     if options.folded {
-        return Ok(View::Folded(labels_of(alloc, &summed.columns)?));
+        return Ok(View::Folded(asked_labels(alloc, options, &summed.columns)?));
     }
     if options.page {
         return Ok(View::Page(page_view(alloc, options, summed)?));
@@ -148,7 +148,7 @@ fn warns_of(options: &Options) -> bool
 fn page_view(alloc: Global, options: &Options, summed: Summed) -> Result<PageView, AllocError>
     ensures { IfOk result (IsPageView options.now summed) }
 {
-    let labels = labels_of(alloc, &summed.columns)?;
+    let labels = asked_labels(alloc, options, &summed.columns)?;
     let options = table_options(alloc, options, summed)?;
     Ok(PageView { options, labels })
 }

@@ -176,8 +176,8 @@ fn idle_rule(options: &Options) -> Option<&'static str>
             "the argument '--where <CONDITION>' goes with '--top <N>', '--json' and '--base <FILE>' alone",
         ),
         Rule(
-            options.merge_templates & !table,
-            "the argument '--merge-templates' goes with '--top <N>', '--json' and '--base <FILE>' alone",
+            options.merge_templates & !(has_table(options) | options.folded),
+            "the argument '--merge-templates' goes with '--top <N>', '--json', '--base <FILE>', '--folded' and '--page' alone",
         ),
         Rule(
             !options.only.is_empty() & !has_table(options),
@@ -208,8 +208,8 @@ fn idle_rule(options: &Options) -> Option<&'static str>
 
 /// What is said of columns or a number that what is summed doesn't have, or the text that is asked for.
 pub(crate) fn unsuited_rule(options: &Options, summed: &Summed) -> Option<&'static str>
-    ensures { is_some result ≡ (is_broken (unsuited options.now summed.now)
-        || is_broken (untested options.now summed.now)) }
+    ensures { is_some result
+        ≡ (is_broken (unsuited options.now summed.now) || is_broken (untested options.now summed.now)) }
 {
     let (of, columns) = (summed.of, &summed.columns);
     let rule = first_broken(&[

@@ -32,8 +32,7 @@ pub(crate) fn summed_by(
     alloc: Global,
     options: &Options,
 ) -> Result<Result<Summed, &'static str>, AllocError>
-    ensures { IfOk result (λ summed. MatchResult summed
-        (IsAskedBy options.now) (λ rule. AskNothing options.now)) }
+    ensures { IfOk result (λ summed. MatchResult summed (IsAskedBy options.now) (λ rule. AskNothing options.now)) }
 {
     let Some(of) = of_of(options) else {
         return Ok(Err(OF_RULE));
