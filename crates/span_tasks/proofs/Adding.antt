@@ -4,7 +4,7 @@ use Rattle.span_table.specs.Adding.{add_tables}
 use Rattle.span_parts.specs.{Sum.{FirstFails, JoinsParts, PartFails}, declared.fault.PartFault.{PartFault, TheVariants.{Memory, NotTable, OtherColumns, TooMany}}}
 use Rattle.std.proofs.{Common.{◌≡◌, ℕ, suc, ◌<◌, List, [], ◌∷◌, ◌++◌, length, take, drop, inl, inr, refl, ap, sym, subst, ◌∙◌, append_assoc}, Math.{ListN.get_or, Seq.drop-cons}, lemmas.List.{take-append-drop, Elements.All-head}}
 use Rattle.span_parts.proofs.Taken.{JoinsParts-added}
-use Rattle.span_tasks.specs.{Bytes, Chooses, HasColumns, HasOtherColumns, IsPart, PartSum, SumsParts, TakesNone, chosen, AreAt, AreParts, SourceBytes, Name, TimeUnit, Column, Of, Number, SpanTable, goes_by, Added.{Adds, AddsBeside, AddsEach, BeginsWith, IsOfKind, IsText, LacksAsked, LacksNumber, SaysPart, StopsAdding, StopsNext, TakesName, with_sum}, Sides.{AddTo, StopsLater}}
+use Rattle.span_tasks.specs.{Bytes, Chooses, HasColumns, HasOtherColumns, IsPart, PartSum, SumsParts, TakesNone, chosen, AreAt, AreParts, SourceBytes, Name, TimeUnit, Column, Of, Number, SpanTable, TableOptions, goes_by, Summed.tested_in, Added.{Adds, AddsBeside, AddsEach, BeginsWith, IsOfKind, IsText, LacksAsked, LacksNumber, SaysPart, StopsAdding, StopsNext, TakesName, with_sum}, Sides.{AddTo, StopsLater}}
 
 pub AllZip-append : {A B : Type 0} (R : A → B → Type 0) (xs more : List A) (ys others : List B) → AllZip R xs ys → AllZip R more others → AllZip R (xs ++ more) (ys ++ others)
 AllZip-append R [] more [] others one other = other
@@ -17,9 +17,9 @@ split-at : {A : Type 0} (xs : List A) (place : ℕ) (x : A) → place < length x
 split-at xs place x low is = sym (ap (λ n. take place xs ++ n ∷ drop (suc place) xs) is ∙ ap (λ ns. take place xs ++ ns) (sym (drop-cons xs place x low)) ∙ take-append-drop place xs)
 
 -- the choice of columns is that of parts with the same
-pub Chooses-same : (wanted : List Column) (old new : PartSum) → new.columns ≡ old.columns → new.places ≡ old.places → Chooses wanted old → Chooses wanted new
-Chooses-same wanted old new columns places chooses =
-    subst (λ (cs : List Column). AreAt new.places (chosen wanted cs) cs) (sym columns) (subst (λ (ps : List ℕ). AreAt ps (chosen wanted old.columns) old.columns) (sym places) chooses)
+pub Chooses-same : (shown tested : List Column) (old new : PartSum) → new.columns ≡ old.columns → new.places ≡ old.places → Chooses shown tested old → Chooses shown tested new
+Chooses-same shown tested old new columns places chooses =
+    subst (λ (cs : List Column). AreAt new.places (chosen shown tested cs) cs) (sym columns) (subst (λ (ps : List ℕ). AreAt ps (chosen shown tested old.columns) old.columns) (sym places) chooses)
 
 -- the table of a text lacks a number that its sum lacks
 pub LacksNumber-first : (by : Option Number) (text : Bytes) (unit : TimeUnit) (of : Of) (parts : List SpanTable) → AreParts unit (text ∷ []) parts → All (λ (part : SpanTable). part.of ≡ of) parts → goes_by of by ≡ false → LacksNumber by text
@@ -196,12 +196,12 @@ module _ (source : SourceBytes) where
   StopsAdding-part name text of unit columns TooMany read fails lines says = absurd says
 
   -- why a first table is none of the kind that is asked for
-  pub StopsAdding-first : (name : Name) (text : Bytes) (wanted : List Column) (by : Option Number) (fault : PartFault) → IsText source name text → FirstFails wanted text fault → (lines : Bytes) →
-      SaysPart name fault lines → StopsAdding source (LacksAsked wanted by) name lines
-  StopsAdding-first name text wanted by NotTable read fails lines says = inr (inl (text, read, fails, says))
-  StopsAdding-first name text wanted by OtherColumns read fails lines says = inr (inr (text, read, inl fails, says))
-  StopsAdding-first name text wanted by Memory read fails lines says = absurd says
-  StopsAdding-first name text wanted by TooMany read fails lines says = absurd says
+  pub StopsAdding-first : (name : Name) (text : Bytes) (options : TableOptions) (by : Option Number) (fault : PartFault) → IsText source name text → FirstFails options.columns.items (tested_in options) text fault → (lines : Bytes) →
+      SaysPart name fault lines → StopsAdding source (LacksAsked options by) name lines
+  StopsAdding-first name text options by NotTable read fails lines says = inr (inl (text, read, fails, says))
+  StopsAdding-first name text options by OtherColumns read fails lines says = inr (inr (text, read, inl fails, says))
+  StopsAdding-first name text options by Memory read fails lines says = absurd says
+  StopsAdding-first name text options by TooMany read fails lines says = absurd says
 
   -- a table of each of the names, by other words
   AllZip-weaker : {A B : Type 0} (R T : A → B → Type 0) → ((x : A) (y : B) → R x y → T x y) → (xs : List A) (ys : List B) → AllZip R xs ys → AllZip T xs ys

@@ -3,17 +3,17 @@ use Rattle.std.proofs.{Common.{◌≡◌, ◌≤◌, Bool, true, List, [], ◌�
 use Rattle.span_event.specs.declared.unit.Unit.TheVariants.{Microseconds}
 use Rattle.span_table.specs.declared.of.Of.TheVariants.{Spans}
 use Rattle.span_request.specs.declared.tasks.Items.TheVariants.{Apart as EachApart, Printed, Together}
-use Rattle.span_tasks.specs.{Bytes, Listed, Number, Name, SourceBytes, Items, PartSum, SpanTable, TableOptions, run_alone, shorter, table_of, table_of_run, Added.Adds, Sides.{AreSides, IsOneSide, IsSide, StopSides, StopsOneSide, StopsSide}, declared.side.Side.Side}
+use Rattle.span_tasks.specs.{Bytes, Listed, Number, Name, SourceBytes, Items, PartSum, SpanTable, TableOptions, run_alone, shorter, table_of, table_of_run, Added.Adds, Sides.{AreBothGathered, Gathers, IsGathered, StopSides, StopsOneSide, StopsSide}, declared.side.Side.Side}
 
 -- parts of no tables, where no kind is asked for
 pub no-parts : PartSum
 no-parts = record { of = Spans; unit = Microseconds; columns = []; places = []; sum = table_of Spans [] [] }
 
 module _ (source : SourceBytes) (options : TableOptions) (by : Option Number) (each : Bool) where
-  IsSide-runs : (items : Items) (one other : PartSum) (files : Listed) (side : Side) → (items ≡ Printed → ⊥) → IsSide source items options each one files side → IsSide source items options each other files side
-  IsSide-runs (Together settings) one other files side runs is = is
-  IsSide-runs (EachApart settings) one other files side runs is = is
-  IsSide-runs Printed one other files side runs is = absurd (runs refl)
+  Gathers-runs : (items : Items) (one other : PartSum) (files : Listed) (side : Side) → (items ≡ Printed → ⊥) → Gathers source items options each one files side → Gathers source items options each other files side
+  Gathers-runs (Together settings) one other files side runs is = is
+  Gathers-runs (EachApart settings) one other files side runs is = is
+  Gathers-runs Printed one other files side runs is = absurd (runs refl)
 
   StopsSide-runs : (items : Items) (parts : PartSum) (names : List Name) (lines : Bytes) → (items ≡ Printed → ⊥) → StopsOneSide source items options by each names lines → StopsSide source items each parts names lines
   StopsSide-runs (Together settings) parts names lines runs (inl kind) = absurd kind
@@ -23,17 +23,17 @@ module _ (source : SourceBytes) (options : TableOptions) (by : Option Number) (e
   StopsSide-runs Printed parts names lines runs stops = absurd (runs refl)
 
   -- both sides of runs are two sides
-  pub AreSides-runs : (items : Items) (base_files files : Listed) (base other : Side) → (items ≡ Printed → ⊥) → IsOneSide source items options by each base_files base →
-      IsOneSide source items options by each files other → AreSides source items options by each base_files files base other
-  AreSides-runs items base_files files base other runs one another = record {
+  pub AreBothGathered-runs : (items : Items) (base_files files : Listed) (base other : Side) → (items ≡ Printed → ⊥) → IsGathered source items options by each base_files base →
+      IsGathered source items options by each files other → AreBothGathered source items options by each base_files files base other
+  AreBothGathered-runs items base_files files base other runs one another = record {
     parts = one.parts;
     kind = one.kind;
     earlier = one.is;
-    later = IsSide-runs items another.parts one.parts files other runs another.is;
+    later = Gathers-runs items another.parts one.parts files other runs another.is;
   }
 
   -- and the second may stop behind the first
-  pub StopSides-runs : (items : Items) (base_files files : Listed) (base : Side) (own lines : Bytes) → (items ≡ Printed → ⊥) → IsOneSide source items options by each base_files base →
+  pub StopSides-runs : (items : Items) (base_files files : Listed) (base : Side) (own lines : Bytes) → (items ≡ Printed → ⊥) → IsGathered source items options by each base_files base →
       StopsOneSide source items options by each files.names.items own → lines ≡ base.said.lines.items ++ own → StopSides source items options by each base_files files lines
   StopSides-runs items base_files files base own lines runs one stops said = inr (record {
     parts = one.parts;

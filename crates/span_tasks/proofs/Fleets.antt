@@ -1,22 +1,27 @@
 -- Whatever a fleet prints is the table of the runs of all its files.
 use Rattle.std.specs.{List.AllZip, Prelude.{flat_map, IfSome}}
 use Rattle.std.proofs.{Common.{◌≡◌, ◌⊎◌, ℕ, ◌+◌, ◌<◌, ◌≤◌, Bool, true, false, cond, List, [], ◌∷◌, All, Contains, filter, length, map, take, Option, Some, None, inl, inr, refl, sym, ap, ap₂, subst, ◌∙◌, arith}, lemmas.List.{append-nil, length-take, take_all, Elements.{All-filter, All-head, All-tail}}}
-use Rattle.span_table.proofs.AddedTables.{table_of-moved}
+use Rattle.span_table.proofs.{AddedTables.table_of-moved, Rows.RowsRise-rows_of}
+use Rattle.span_narrowing.proofs.Plain.{narrowed-plain, summed_by-plain}
 use Rattle.span_table_text.specs.{Printed.{AreDistinct, HasOwn}, Shown.is_wanted, Json.text_of}
 use Rattle.span_table_text.proofs.{Determined.prints-determined, RunTables.{shown_table-all, table_of-HasOwnNumbers, table_of-HasWholeKeys}}
-use Rattle.span_table.specs.{Columns.column_name, Adding.{add_tables, with_columns}, declared.table.Row.Row}
-use Rattle.span_parts.proofs.RunSums.{sum-runs, sum-shown}
+use Rattle.span_table.specs.{Columns.column_name, Tables.run_sums, Adding.{add_tables, with_columns}, declared.table.Row.Row}
+use Rattle.span_parts.proofs.{PrintedSums.sum-HasRows, RunSums.{sum-runs, sum-shown}}
 use Rattle.span_request.specs.declared.tasks.Items.TheVariants.{Printed}
-use Rattle.span_tasks.specs.{Bytes, Settings, run_alone, run_of_files, shorter, Number, Column, IsPart, IsPrint, Listed, Name, Of, PartSum, Run, SumsParts, SourceBytes, TimeUnit, SpanTable, TableOptions, Wanted, shown_table, table_of, picked, chosen, AreAt, AreParts, Added.{AreAsked, AreOfFirst, IsText, most_added, with_sum}, Tabulations.MakesJson, Fleet.{AreRunsOf, AreRunsOfEach, Fleet, Fleets, FleetsLoseNothing, FleetsPrintAlike, KeepsColumns, PrintEach, ShowEach, TableKind, all_rows, kind_of, kind_of_first, more, of_files, of_printed, one}}
+use Rattle.span_tasks.specs.{Bytes, Settings, run_alone, run_of_files, shorter, Number, Column, IsPart, IsPrint, Listed, Name, Of, PartSum, Run, SumsParts, SourceBytes, TimeUnit, SpanTable, TableOptions, Narrowing, Wanted, is_plain, narrowed, shown_table, table_of, picked, chosen, AreAt, AreParts, Added.{AreAsked, AreOfFirst, IsText, most_added, with_sum}, Summed.{columns_of, tested_in}, Tabulations.MakesJson, Fleet.{AreRunsOf, AreRunsOfEach, Fleet, Fleets, FleetsLoseNothing, FleetsPrintAlike, KeepsColumns, PrintEach, ShowEach, TableKind, all_rows, kind_of, kind_of_first, more, of_files, of_printed, one}}
 
 -- the one table of a list
 pub only-same : (first other : SpanTable) → first ∷ [] ≡ other ∷ [] → first ≡ other
 only-same first other same = cc
 
 -- what is asked for, a first table has
-pub AreAsked-first : (source : SourceBytes) (wanted : List Column) (by : Option Number) (names : List Name) (parts : PartSum) → AreOfFirst source wanted by names parts → AreAsked wanted by parts
-AreAsked-first source wanted by [] parts of = absurd of
-AreAsked-first source wanted by (name ∷ later) parts of = of.0
+pub AreAsked-first : (source : SourceBytes) (options : TableOptions) (by : Option Number) (names : List Name) (parts : PartSum) → AreOfFirst source options by names parts → AreAsked options by parts
+AreAsked-first source options by [] parts of = absurd of
+AreAsked-first source options by (name ∷ later) parts of = of.0
+
+-- a table of a side is the one that was gathered, narrowed
+pub only-narrowed : (narrowing : Narrowing) (tables : List SpanTable) (table all : SpanTable) → tables ≡ table ∷ [] → tables ≡ map (narrowed narrowing) (all ∷ []) → table ≡ narrowed narrowing all
+only-narrowed narrowing tables table all only narrows = only-same table (narrowed narrowing all) (sym only ∙ narrows)
 
 -- a text that is added is all that its name stands for
 texts-held : (source : SourceBytes) (names : List Name) (texts held : List Bytes) → AllZip (IsText source) names texts → AllZip (λ name text. source name ≡ Some text) names held → texts ≡ held
@@ -105,28 +110,38 @@ files-print settings options wanted runs text unit table shows in_unit is print 
     subst (λ (u : TimeUnit). IsPrint u text (shown_table wanted all)) in_unit
     (subst (λ (w : Wanted). IsPrint unit text (shown_table w all)) shows (subst (λ (t : SpanTable). IsPrint unit text (shown_table options.shown t)) is print))
 
+-- the table of runs, of which nothing is narrowed
+plain-table : (options : TableOptions) (runs : List Run) → is_plain options.narrowing ≡ true → narrowed options.narrowing (table_of options.of (columns_of options) runs) ≡ table_of options.of options.columns.items runs
+plain-table options runs plain =
+    narrowed-plain options.narrowing (table_of options.of (columns_of options) runs) plain (RowsRise-rows_of (flat_map (run_sums options.of (columns_of options)) runs))
+    ∙ ap (λ columns. table_of options.of columns runs) (summed_by-plain options.narrowing plain options.columns.items)
+
 -- the kind of what is added
 abbrev kind_of_sum : PartSum → TableKind
 kind_of_sum parts = record { of = parts.of; unit = parts.unit; columns = parts.columns }
 
-module _ (wanted : Wanted) (source : SourceBytes) (options : TableOptions) (files : Listed) (parts : Fleets) (text : Bytes) (prints : MakesJson source Printed options files text) where
+module _ (wanted : Wanted) (source : SourceBytes) (options : TableOptions) (files : Listed) (parts : Fleets) (text : Bytes) (plain : is_plain options.narrowing ≡ true) (prints : MakesJson source Printed options files text) where
   abbrev own_parts : PartSum
-  own_parts = prints.one.is.parts
+  own_parts = prints.one.is.gathered.parts
 
   abbrev own_sum : SpanTable
-  own_sum = prints.one.is.is.1.0
+  own_sum = prints.one.is.gathered.is.1.0
 
   abbrev own_columns : List Column
-  own_columns = chosen options.columns.items own_parts.columns
+  own_columns = chosen options.columns.items (tested_in options) own_parts.columns
 
   own-at : AreAt own_parts.places own_columns own_parts.columns
-  own-at = (AreAsked-first source options.columns.items None files.names.items own_parts prints.one.is.kind).chooses
+  own-at = (AreAsked-first source options None files.names.items own_parts prints.one.is.gathered.kind).chooses
 
   own-print : IsPrint own_parts.unit text (shown_table options.shown own_sum)
   own-print =
-      let side = prints.one.is.is in
-      let table = only-same prints.one.table own_sum (sym prints.one.only ∙ side.1.2) in
-      subst (λ (unit : TimeUnit). IsPrint unit text (shown_table options.shown own_sum)) side.0.unit (subst (λ (t : SpanTable). IsPrint prints.one.side.unit text (shown_table options.shown t)) table prints.is)
+      let side = prints.one.is.gathered.is in
+      let narrows = prints.one.is.narrows in
+      let adds = side.1.1 in
+      let table =
+      only-narrowed options.narrowing prints.one.side.tables.items prints.one.table own_sum prints.one.only (narrows.tables ∙ ap (map (narrowed options.narrowing)) side.1.2)
+      ∙ narrowed-plain options.narrowing own_sum plain (sum-HasRows adds.texts (with_sum own_parts own_sum) adds.sums).rise in
+      subst (λ (unit : TimeUnit). IsPrint unit text (shown_table options.shown own_sum)) (narrows.unit ∙ side.0.unit) (subst (λ (t : SpanTable). IsPrint prints.one.side.unit text (shown_table options.shown t)) table prints.is)
 
   -- the sum of tables of runs, of which these are shown
   sum-of_runs : (runs : List Run) → AreRunsOfEach parts runs → kind_of_first parts ≡ kind_of_sum own_parts → shown_table options.shown own_sum ≡ shown_table wanted (table_of own_parts.of own_columns runs) →
@@ -134,7 +149,7 @@ module _ (wanted : Wanted) (source : SourceBytes) (options : TableOptions) (file
   sum-of_runs runs are kind shown = (
     runs,
     are,
-    subst (λ (k : TableKind). IsPrint k.unit text (shown_table wanted (table_of k.of (chosen options.columns.items k.columns) runs))) (sym kind) (subst (IsPrint own_parts.unit text) shown own-print),
+    subst (λ (k : TableKind). IsPrint k.unit text (shown_table wanted (table_of k.of (chosen options.columns.items (tested_in options) k.columns) runs))) (sym kind) (subst (IsPrint own_parts.unit text) shown own-print),
   )
 
   -- the tables that are added
@@ -151,7 +166,7 @@ module _ (wanted : Wanted) (source : SourceBytes) (options : TableOptions) (file
 
     sum-each : HaveRuns wanted (kind_of_sum own_parts) parts sums.parts → KeepsColumns options parts → (options.shown ≡ wanted) ⊎ (options.shown ≡ all_rows) → HasRuns wanted (of_printed source options files parts) text
     sum-each have keeps shows =
-        let kept = subst (λ (k : TableKind). All (Contains (chosen options.columns.items k.columns)) k.columns) have.kind keeps in
+        let kept = subst (λ (k : TableKind). All (Contains (chosen options.columns.items (tested_in options) k.columns)) k.columns) have.kind keeps in
         let added = sums.adds ∙ ap (λ l. add_tables own_parts.of (picked own_parts.places own_parts.columns) (map (with_columns own_parts.places) l)) have.tables
         ∙ sum-shown own_parts.of own_columns own_parts.columns own_parts.places own-at wanted kept have.distinct have.lists in
         sum-of_runs (flat_map (λ runs. runs) have.lists) have.are have.kind (ap (shown_table options.shown) added ∙ again (table_of own_parts.of own_columns (flat_map (λ runs. runs) have.lists)) shows)
@@ -163,27 +178,33 @@ module _ (wanted : Wanted) (source : SourceBytes) (options : TableOptions) (file
 mutual
   -- whatever a fleet prints is the table of the runs of all its files
   pub fleets-whole : FleetsLoseNothing
-  fleets-whole wanted (of_files source true settings options files) text shows prints =
-      let side = prints.one.is.is in
+  fleets-whole wanted (of_files source true settings options files) text (plain, shows) prints =
+      let side = prints.one.is.gathered.is in
+      let narrows = prints.one.is.narrows in
       let runs = map (shorter files.cut) (map (run_alone settings) side.1.files) in
-      let table = only-same prints.one.table (table_of options.of options.columns.items runs) (sym prints.one.only ∙ side.1.runs) in
-      (runs, (side.1.files, side.1.read, side.1.accounted, refl), files-print settings options wanted runs text prints.one.side.unit prints.one.table shows side.0.unit table prints.is)
-  fleets-whole wanted (of_files source false settings options files) text shows prints =
-      let side = prints.one.is.is in
+      let table =
+      only-narrowed options.narrowing prints.one.side.tables.items prints.one.table (table_of options.of (columns_of options) runs) prints.one.only (narrows.tables ∙ ap (map (narrowed options.narrowing)) side.1.runs)
+      ∙ plain-table options runs plain in
+      (runs, (side.1.files, side.1.read, side.1.accounted, refl), files-print settings options wanted runs text prints.one.side.unit prints.one.table shows (narrows.unit ∙ side.0.unit) table prints.is)
+  fleets-whole wanted (of_files source false settings options files) text (plain, shows) prints =
+      let side = prints.one.is.gathered.is in
+      let narrows = prints.one.is.narrows in
       let run = side.1.run in
       let runs = run_of_files run.inputs.items run.collected.end.ends.items run.collected.ledger.journal ∷ [] in
-      let table = only-same prints.one.table (table_of options.of options.columns.items runs) (sym prints.one.only ∙ side.1.is) in
-      (runs, (run, side.1.ended, refl), files-print settings options wanted runs text prints.one.side.unit prints.one.table shows side.0.unit table prints.is)
-  fleets-whole wanted (of_printed source options files parts) text (inl (shows, all)) (prints, (texts, held, each)) =
-      let adds = prints.one.is.is.1.1 in
-      let own = prints.one.is.parts in
-      let sums = subst (λ ts. SumsParts ts (with_sum own prints.one.is.is.1.0)) (texts-held source files.names.items adds.texts texts adds.read held) adds.sums in
-      sum-all wanted source options files parts text prints texts sums (parts-whole all_rows (kind_of_sum own) parts texts sums.parts all each sums.are sums.kinds sums.columns) shows
-  fleets-whole wanted (of_printed source options files parts) text (inr (shows, keeps, shown)) (prints, (texts, held, each)) =
-      let adds = prints.one.is.is.1.1 in
-      let own = prints.one.is.parts in
-      let sums = subst (λ ts. SumsParts ts (with_sum own prints.one.is.is.1.0)) (texts-held source files.names.items adds.texts texts adds.read held) adds.sums in
-      sum-each wanted source options files parts text prints texts sums (parts-whole wanted (kind_of_sum own) parts texts sums.parts shown each sums.are sums.kinds sums.columns) keeps shows
+      let table =
+      only-narrowed options.narrowing prints.one.side.tables.items prints.one.table (table_of options.of (columns_of options) runs) prints.one.only (narrows.tables ∙ ap (map (narrowed options.narrowing)) side.1.is)
+      ∙ plain-table options runs plain in
+      (runs, (run, side.1.ended, refl), files-print settings options wanted runs text prints.one.side.unit prints.one.table shows (narrows.unit ∙ side.0.unit) table prints.is)
+  fleets-whole wanted (of_printed source options files parts) text (plain, inl (shows, all)) (prints, (texts, held, each)) =
+      let adds = prints.one.is.gathered.is.1.1 in
+      let own = prints.one.is.gathered.parts in
+      let sums = subst (λ ts. SumsParts ts (with_sum own prints.one.is.gathered.is.1.0)) (texts-held source files.names.items adds.texts texts adds.read held) adds.sums in
+      sum-all wanted source options files parts text plain prints texts sums (parts-whole all_rows (kind_of_sum own) parts texts sums.parts all each sums.are sums.kinds sums.columns) shows
+  fleets-whole wanted (of_printed source options files parts) text (plain, inr (shows, keeps, shown)) (prints, (texts, held, each)) =
+      let adds = prints.one.is.gathered.is.1.1 in
+      let own = prints.one.is.gathered.parts in
+      let sums = subst (λ ts. SumsParts ts (with_sum own prints.one.is.gathered.is.1.0)) (texts-held source files.names.items adds.texts texts adds.read held) adds.sums in
+      sum-each wanted source options files parts text plain prints texts sums (parts-whole wanted (kind_of_sum own) parts texts sums.parts shown each sums.are sums.kinds sums.columns) keeps shows
 
   parts-whole : (wanted : Wanted) (kind : TableKind) (parts : Fleets) (texts : List Bytes) (tables : List SpanTable) → ShowEach wanted parts → PrintEach parts texts → AreParts kind.unit texts tables →
       All (λ table. table.of ≡ kind.of) tables → All (λ table. table.columns ≡ kind.columns) tables → HaveRuns wanted kind parts tables

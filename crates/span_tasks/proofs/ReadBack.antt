@@ -1,17 +1,19 @@
 -- What is printed as JSON Lines can be read back, and added.
 use Rattle.std.specs.{List.list_any, Prelude.{All, Contains, IfSome, slice_get}}
-use Rattle.std.proofs.{Common.{◌≡◌, ◌⊎◌, ℕ, zero, suc, ◌+◌, ◌&&◌, ◌||◌, Bool, true, false, cond, not, List, [], ◌∷◌, ◌++◌, get_or, length, map, take, Some, None, inl, inr, refl, ap, ap₂, sym, subst, ◌∙◌, arith, true≢false}, lemmas.{Bool.or_parts, List.{take_all, Elements.{All-contains, All-cons, All-head, All-map, All-nil, All-tail, Contains-append_right}}}}
+use Rattle.std.proofs.{Common.{◌≡◌, ◌⊎◌, ℕ, zero, suc, ◌+◌, ◌&&◌, ◌||◌, Bool, true, false, cond, not, List, [], ◌∷◌, ◌++◌, get_or, length, map, take, Some, None, inl, inr, refl, ap, ap₂, sym, subst, ◌∙◌, arith, true≢false}, lemmas.{Bool.or_parts, List.{append-nil, take_all, Elements.{All-append, All-contains, All-cons, All-head, All-map, All-nil, All-tail, Contains-append_right}}}}
 use Rattle.span_event.specs.Text.{Bytes}
-use Rattle.span_table_text.specs.Printed.{HasFile, IsOfLegal}
-use Rattle.span_table_text.proofs.{Determined.parts-determined, RunTables.prints-parts}
-use Rattle.span_parts.specs.Sum.{SumsAreParts}
-use Rattle.span_parts.proofs.Places.{AreAt-each, picked-at}
-use Rattle.span_request.specs.{Options, Columns.is_file, Laws.{AddedTablesMayHaveThem, TablesMayHaveThem}, Rules.{is_broken, takes_apart, unsuited}, Tasks.{settings_of}}
+use Rattle.span_table_text.specs.Printed.{HasFile, HaveFiles, IsOfLegal}
+use Rattle.span_table_text.proofs.{Determined.parts-determined, RunTables.{HasRows, HasRows-shown, IsPart-print, table_of-HasRows}}
+use Rattle.span_narrowing.specs.Narrowed.{narrowed}
+use Rattle.span_narrowing.proofs.Suited.{HasRows-narrowed, narrowed-columns}
+use Rattle.span_parts.specs.Sum.{named_or_all}
+use Rattle.span_parts.proofs.{Places.{AreAt-each, picked-at}, PrintedSums.sum-HasRows}
+use Rattle.span_request.specs.{Condition, Options, Asked.Asked, Columns.is_file, Laws.{AddedTablesMayHaveThem, ConditionsMayTestThem, TablesMayHaveThem}, Request.AreSound, Rules.takes_apart, Tasks.{IsOptions, settings_of}}
 use Rattle.span_request.specs.declared.tasks.Items.{Items, TheVariants.{Apart, Printed, Together}}
 use Rattle.span_table.specs.Columns.{goes_with}
 use Rattle.span_table.specs.declared.column.Column.TheVariants as of
-use Rattle.span_tasks.specs.{AreColumns, Column, HasOtherColumns, Input, IsPart, IsPrint, Listed, Name, Of, PartSum, Run, Settings, SourceBytes, SpanTable, TableOptions, TimeUnit, chosen, goes_by, printed, run_alone, run_of_files, shorter, shown_table, table_of, unread_line, AreAt, Added.{AreAsked, AreOfFirst, AreTooMany, IsOfKind, IsRead, IsText, LacksAsked, StopsAdding, StopsNext, most_added, with_sum}, ReadBack.{HasPart, JsonLinesAreParts, PartsAreAdded}, Tabulations.{MakesJson, PrintsText}}
-use Rattle.span_tasks.proofs.{Fleets.only-same, InTurn.journal_in_turn-legal}
+use Rattle.span_tasks.specs.{AreColumns, Column, HasOtherColumns, Input, IsPart, IsPrint, Listed, Name, Of, PartSum, Run, Settings, SumsParts, SourceBytes, SpanTable, TableOptions, TimeUnit, chosen, goes_by, picked, printed, run_alone, run_of_files, shorter, shown_table, table_of, unread_line, AreAt, Added.{AreAsked, AreOfFirst, AreTooMany, IsOfKind, IsRead, IsText, LacksAsked, StopsAdding, StopsNext, most_added, with_sum}, ReadBack.{HasPart, JsonLinesAreParts, PartsAreAdded}, Summed.{columns_of, tested_in}, Tabulations.{MakesJson, PrintsText}}
+use Rattle.span_tasks.proofs.{Fleets.only-narrowed, InTurn.journal_in_turn-legal}
 
 -- each column stands somewhere among them
 each-at : (columns : List Column) → (places : List ℕ) × AreAt places columns columns
@@ -44,9 +46,12 @@ module _ (source : SourceBytes) (of : Of) (unit : TimeUnit) (columns : List Colu
   StopsAdding-part IsOther name lines has none (inr (inr (text, is, other, said))) = absurd (none text is other)
 
   -- a part has all that is asked for where nothing is
-  lacks-none : (name : Name) (text : Bytes) → LacksAsked [] None text → ⊥
-  lacks-none name text (inl lacks) = let at = each-at lacks.part.columns in lacks.lacks at.0 at.1
-  lacks-none name text (inr lacks) = true≢false (sym (goes_by-none lacks.part.of) ∙ lacks.lacks)
+  lacks-none : (options : TableOptions) (text : Bytes) → options.columns.items ≡ [] → options.narrowing.conditions.items ≡ [] → LacksAsked options None text → ⊥
+  lacks-none options text all none (inl lacks) =
+      let at = each-at lacks.part.columns in
+      let same = ap₂ (λ (named : List Column) (conditions : List Condition). named_or_all named lacks.part.columns ++ map (λ (c : Condition). c.column) conditions) all none ∙ append-nil lacks.part.columns in
+      lacks.lacks at.0 (subst (λ columns. AreAt at.0 columns lacks.part.columns) (sym same) at.1)
+  lacks-none options text all none (inr lacks) = true≢false (sym (goes_by-none lacks.part.of) ∙ lacks.lacks)
 
   -- parts of the kind of such a part sum the same, in the same unit and by the same columns
   kind-same : (name : Name) (has : HasPart source of unit columns name) (parts : PartSum) → IsOfKind source name parts → (parts.of ≡ of) × (parts.unit ≡ unit) × (parts.columns ≡ columns)
@@ -63,14 +68,13 @@ module _ (source : SourceBytes) (of : Of) (unit : TimeUnit) (columns : List Colu
 
 -- parts of one kind are added
 pub parts-added : PartsAreAdded
-parts-added source of unit columns options [] lines all some have stops = absurd (omega arith)
-parts-added source of unit columns options (name ∷ later) lines all some have (inl (inl stops)) =
+parts-added source of unit columns options [] lines all none some have stops = absurd (omega arith)
+parts-added source of unit columns options (name ∷ later) lines all none some have (inl (inl stops)) =
     let has = All-head (HasPart source of unit columns) name later have in
-    let first = subst (λ (wanted : List Column). StopsAdding source (LacksAsked wanted None) name lines) all stops in
-    inr (name, (0, omega arith, refl), StopsAdding-part source of unit columns (LacksAsked [] None) name lines has (λ text is. lacks-none source of unit columns name text) first)
-parts-added source of unit columns options (name ∷ later) lines all some have (inl (inr many)) = inl many
-parts-added source of unit columns options (name ∷ later) lines all some have (inr (parts, kind, inr many)) = inl many
-parts-added source of unit columns options (name ∷ later) lines all some have (inr (parts, kind, inl stops)) =
+    inr (name, (0, omega arith, refl), StopsAdding-part source of unit columns (LacksAsked options None) name lines has (λ text is. lacks-none source of unit columns options text all none) stops)
+parts-added source of unit columns options (name ∷ later) lines all none some have (inl (inr many)) = inl many
+parts-added source of unit columns options (name ∷ later) lines all none some have (inr (parts, kind, inr many)) = inl many
+parts-added source of unit columns options (name ∷ later) lines all none some have (inr (parts, kind, inl stops)) =
     let names = name ∷ later in
     let same = kind-same source of unit columns name (All-head (HasPart source of unit columns) name later have) parts kind.1 in
     by stops.later stops.split stops.cause same
@@ -101,6 +105,8 @@ no-file run (column ∷ columns) none =
     by of.Scope e = tt
     by of.Id e = tt
     by (of.Argument key) e = tt
+    by of.ParentName e = tt
+    by (of.ParentArgument key) e = tt
 
 -- a file that is a run of its own has its name
 own-file : (cut : ℕ) (settings : Settings) (columns : List Column) (file : Input) → All (HasFile (shorter cut (run_alone settings file))) columns
@@ -117,66 +123,91 @@ own-file cut settings columns file = λ k d low. by (get_or columns k d)
     by of.Scope = tt
     by of.Id = tt
     by (of.Argument key) = tt
+    by of.ParentName = tt
+    by (of.ParentArgument key) = tt
+
+-- of what stands before others holds what holds of all
+All-front : {A : Type 0} (P : A → Type 0) (front back : List A) → All P (front ++ back) → All P front
+All-front P [] back all = All-nil P
+All-front P (x ∷ front) back all = All-cons P x front (All-head P x (front ++ back) all) (All-front P front back (All-tail P x (front ++ back) all))
 
 module _ (source : SourceBytes) (options : TableOptions) (listed : Listed) (text : Bytes) where
   abbrev IsSomePart : Type 0
   IsSomePart = (unit : TimeUnit) × (part : SpanTable) × IsPart unit text part
 
-  -- one run's table
-  part-of_run : (settings : Settings) → AreColumns options.of options.columns.items → list_any is_file options.columns.items ≡ false → MakesJson source (Together settings) options listed text →
-      IsSomePart
-  part-of_run settings are none prints =
-      let side = prints.one.is.is in
-      let run = run_of_files side.1.run.inputs.items side.1.run.collected.end.ends.items side.1.run.collected.ledger.journal in
-      let table = only-same prints.one.table (table_of options.of options.columns.items (run ∷ [])) (sym prints.one.only ∙ side.1.is) in
-      let files = All-cons (λ (r : Run). All (HasFile r) options.columns.items) run [] (no-file run options.columns.items none) (All-nil (λ (r : Run). All (HasFile r) options.columns.items)) in (
-        prints.one.side.unit,
-        shown_table options.shown (table_of options.of options.columns.items (run ∷ [])),
-        prints-parts prints.one.side.unit options.of options.columns.items (run ∷ []) options.shown text are files
-            (All-cons IsOfLegal run [] (settings.strict, side.1.ended.is.account.legal) (All-nil IsOfLegal))
-            (subst (λ t. IsPrint prints.one.side.unit text (shown_table options.shown t)) table prints.is),
+  -- what is printed of a table that was narrowed, and then of its shown rows
+  part-of_table : (unit : TimeUnit) (table all : SpanTable) → table ≡ narrowed options.narrowing all → HasRows all → AreColumns all.of (narrowed options.narrowing all).columns → IsPrint unit text (shown_table options.shown table) → IsSomePart
+  unfolding narrowed
+  part-of_table unit table all is has are print =
+      let own = narrowed options.narrowing all in (
+        unit,
+        shown_table options.shown own,
+        IsPart-print unit text (shown_table options.shown own) are (HasRows-shown options.shown own (HasRows-narrowed options.narrowing all has)) (subst (λ (t : SpanTable). IsPrint unit text (shown_table options.shown t)) is print),
       )
 
+  -- what is printed of runs
+  part-of_runs : (unit : TimeUnit) (table : SpanTable) (runs : List Run) → table ≡ narrowed options.narrowing (table_of options.of (columns_of options) runs) → AreColumns options.of options.columns.items
+      → All (λ column. goes_with options.of column ≡ true) (columns_of options) → HaveFiles (columns_of options) runs → All IsOfLegal runs → IsPrint unit text (shown_table options.shown table) → IsSomePart
+  part-of_runs unit table runs is are suited files legal =
+      let all = table_of options.of (columns_of options) runs in
+      part-of_table unit table all is (table_of-HasRows options.of (columns_of options) runs suited files legal)
+      (subst (AreColumns options.of) (sym (narrowed-columns options.narrowing options.columns.items all refl)) are)
+
+  -- one run's table
+  part-of_run : (settings : Settings) → AreColumns options.of options.columns.items → All (λ column. goes_with options.of column ≡ true) (columns_of options) → list_any is_file (columns_of options) ≡ false
+      → MakesJson source (Together settings) options listed text → IsSomePart
+  part-of_run settings are suited none prints =
+      let side = prints.one.is.gathered.is in
+      let narrows = prints.one.is.narrows in
+      let columns = columns_of options in
+      let run = run_of_files side.1.run.inputs.items side.1.run.collected.end.ends.items side.1.run.collected.ledger.journal in
+      let table =
+      only-narrowed options.narrowing prints.one.side.tables.items prints.one.table (table_of options.of columns (run ∷ [])) prints.one.only (narrows.tables ∙ ap (map (narrowed options.narrowing)) side.1.is) in
+      let files = All-cons (λ (r : Run). All (HasFile r) columns) run [] (no-file run columns none) (All-nil (λ (r : Run). All (HasFile r) columns)) in
+      part-of_runs prints.one.side.unit prints.one.table (run ∷ []) table are suited files
+      (All-cons IsOfLegal run [] (settings.strict, side.1.ended.is.account.legal) (All-nil IsOfLegal)) prints.is
+
   -- that of files apart
-  part-of_files : (settings : Settings) → AreColumns options.of options.columns.items → MakesJson source (Apart settings) options listed text → IsSomePart
-  part-of_files settings are prints =
-      let side = prints.one.is.is in
+  part-of_files : (settings : Settings) → AreColumns options.of options.columns.items → All (λ column. goes_with options.of column ≡ true) (columns_of options) → MakesJson source (Apart settings) options listed text → IsSomePart
+  part-of_files settings are suited prints =
+      let side = prints.one.is.gathered.is in
+      let narrows = prints.one.is.narrows in
+      let columns = columns_of options in
       let files = side.1.files in
       let alone = map (run_alone settings) files in
       let runs = map (shorter listed.cut) alone in
-      let table = only-same prints.one.table (table_of options.of options.columns.items runs) (sym prints.one.only ∙ side.1.runs) in
-      let have = All-map (λ (r : Run). All (HasFile r) options.columns.items) (shorter listed.cut) alone
-      (All-map (λ (r : Run). All (HasFile (shorter listed.cut r)) options.columns.items) (run_alone settings) files
-      (λ k d low. own-file listed.cut settings options.columns.items (get_or files k d))) in (
-        prints.one.side.unit,
-        shown_table options.shown (table_of options.of options.columns.items runs),
-        prints-parts prints.one.side.unit options.of options.columns.items runs options.shown text are have
-            (All-map IsOfLegal (shorter listed.cut) alone (All-map (λ (r : Run). IsOfLegal (shorter listed.cut r)) (run_alone settings) files (λ k d low. (settings.strict, journal_in_turn-legal settings (get_or files k d ∷ [])))))
-            (subst (λ t. IsPrint prints.one.side.unit text (shown_table options.shown t)) table prints.is),
-      )
+      let table =
+      only-narrowed options.narrowing prints.one.side.tables.items prints.one.table (table_of options.of columns runs) prints.one.only (narrows.tables ∙ ap (map (narrowed options.narrowing)) side.1.runs) in
+      let have = All-map (λ (r : Run). All (HasFile r) columns) (shorter listed.cut) alone
+      (All-map (λ (r : Run). All (HasFile (shorter listed.cut r)) columns) (run_alone settings) files
+      (λ k d low. own-file listed.cut settings columns (get_or files k d))) in
+      part-of_runs prints.one.side.unit prints.one.table runs table are suited have
+      (All-map IsOfLegal (shorter listed.cut) alone (All-map (λ (r : Run). IsOfLegal (shorter listed.cut r)) (run_alone settings) files (λ k d low. (settings.strict, journal_in_turn-legal settings (get_or files k d ∷ [])))))
+      prints.is
 
   -- that of added tables
-  part-of_parts : SumsAreParts → ((own : Of) → All (λ column. goes_with own column ≡ true) options.columns.items → (options.columns.items ≡ []) ⊎ AreColumns own options.columns.items)
-      → MakesJson source Printed options listed text → IsSomePart
-  part-of_parts sums may prints =
-      let parts = prints.one.is.parts in
-      let first = first-kind listed.names.items prints.one.is.kind in
-      let side = prints.one.is.is in
-      let table = side.1.0 in
-      let sum = with_sum parts table in
-      let own = first.2.2.is.is.columns in
-      let columns = subst (AreColumns parts.of) first.2.2.by (subst (λ (of : Of). AreColumns of first.2.2.part.columns) first.2.2.kind own) in
-      let chosen_may = by_wanted options.columns.items parts columns first.1.chooses may in
-      let are = subst (AreColumns parts.of) (sym (picked-at parts.places (chosen options.columns.items parts.columns) parts.columns first.1.chooses)) chosen_may in
-      let print =
-      subst (λ (unit : TimeUnit). IsPrint unit text (shown_table options.shown table)) side.0.unit
-      (subst (λ t. IsPrint prints.one.side.unit text (shown_table options.shown t)) (only-same prints.one.table table (sym prints.one.only ∙ side.1.2)) prints.is) in
-      (parts.unit, shown_table options.shown table, sums side.1.1.texts sum options.shown text side.1.1.sums are print)
+  part-of_parts : ((own : Of) → All (λ column. goes_with own column ≡ true) options.columns.items → (options.columns.items ≡ []) ⊎ AreColumns own options.columns.items) → MakesJson source Printed options listed text → IsSomePart
+  part-of_parts may prints =
+      let gathered = prints.one.is.gathered in
+      let narrows = prints.one.is.narrows in
+      let parts = gathered.parts in
+      let first = first-kind parts listed.names.items gathered.kind in
+      let sum = gathered.is.1.0 in
+      let adds = gathered.is.1.1 in
+      let columns = subst (AreColumns parts.of) first.2.2.by (subst (λ (of : Of). AreColumns of first.2.2.part.columns) first.2.2.kind first.2.2.is.is.columns) in
+      let at = first.1.chooses in
+      let chosen_may = by_named options.columns.items parts columns at may in
+      let kind = sum-kind adds.texts (with_sum parts sum) adds.sums in
+      let by = kind.1 ∙ picked-at parts.places (chosen options.columns.items (tested_in options) parts.columns) parts.columns at in
+      let are = subst (λ (of : Of). AreColumns of (named_or_all options.columns.items parts.columns)) (sym kind.0) chosen_may in
+      let table = only-narrowed options.narrowing prints.one.side.tables.items prints.one.table sum prints.one.only (narrows.tables ∙ ap (map (narrowed options.narrowing)) gathered.is.1.2) in
+      part-of_table prints.one.side.unit prints.one.table sum table (sum-HasRows adds.texts (with_sum parts sum) adds.sums)
+      (subst (AreColumns sum.of) (sym (narrowed-columns options.narrowing (named_or_all options.columns.items parts.columns) sum by)) are) prints.is
     where
       -- the first name, whose table is of the kind
-      first-kind : (names : List Name) → AreOfFirst source options.columns.items None names prints.one.is.parts → (name : Name) × AreAsked options.columns.items None prints.one.is.parts × IsOfKind source name prints.one.is.parts
-      first-kind [] kind = absurd kind
-      first-kind (name ∷ later) kind = (name, kind.0, kind.1)
+      first-kind : (parts : PartSum) (names : List Name) → AreOfFirst source options None names parts → (name : Name) × AreAsked options None parts × IsOfKind source name parts
+      first-kind parts [] kind = absurd kind
+      first-kind parts (name ∷ later) kind = (name, kind.0, kind.1)
 
       -- what is at a place has what all have
       all-got : {A : Type 0} (P : A → Type 0) (xs : List A) (place : ℕ) (x : A) → slice_get xs place ≡ Some x → All P xs → P x
@@ -184,54 +215,93 @@ module _ (source : SourceBytes) (options : TableOptions) (listed : Listed) (text
       all-got P (y ∷ ys) zero x got all = let same : y ≡ x = cc in subst P same (All-head P y ys all)
       all-got P (y ∷ ys) (suc place) x got all = all-got P ys place x got (All-tail P y ys all)
 
-      by_wanted : (wanted : List Column) (parts : PartSum) → AreColumns parts.of parts.columns → AreAt parts.places (chosen wanted parts.columns) parts.columns
-          → ((own : Of) → All (λ column. goes_with own column ≡ true) wanted → (wanted ≡ []) ⊎ AreColumns own wanted) → AreColumns parts.of (chosen wanted parts.columns)
-      by_wanted [] parts are at may = are
-      by_wanted (column ∷ wanted) parts are at may =
+      -- what a sum is of
+      sum-kind : (texts : List Bytes) (parts : PartSum) → SumsParts texts parts → (parts.sum.of ≡ parts.of) × (parts.sum.columns ≡ picked parts.places parts.columns)
+      sum-kind texts parts sums = (ap (λ (t : SpanTable). t.of) sums.adds, ap (λ (t : SpanTable). t.columns) sums.adds)
+
+      by_named : (named : List Column) (parts : PartSum) → AreColumns parts.of parts.columns → AreAt parts.places (chosen named (tested_in options) parts.columns) parts.columns
+          → ((own : Of) → All (λ column. goes_with own column ≡ true) named → (named ≡ []) ⊎ AreColumns own named) → AreColumns parts.of (named_or_all named parts.columns)
+      by_named [] parts are at may = are
+      by_named (column ∷ named) parts are at may =
           let goes = λ (c : Column). goes_with parts.of c ≡ true in
-          elim (may parts.of (λ k d low. let place = AreAt-each parts.places (column ∷ wanted) parts.columns at k d low in all-got goes parts.columns place.0 _ place.1 are.suited)) [
+          let all : All goes ((column ∷ named) ++ tested_in options) = λ k d low. let place = AreAt-each parts.places ((column ∷ named) ++ tested_in options) parts.columns at k d low in all-got goes parts.columns place.0 _ place.1 are.suited in
+          elim (may parts.of (All-front goes (column ∷ named) (tested_in options) all)) [
             | inl none ↦ absurd cc
             | inr have ↦ have
           ]
 
--- no file's name is a column of one run's table
-file-none : (options : Options) (of : Of) (columns : List Column) → is_broken (unsuited options of columns) ≡ false → options.add ≡ false → takes_apart options ≡ false → list_any is_file columns ≡ false
-file-none options of columns suited own together = by (list_any is_file columns) (or_parts _ _ (or_parts _ _ (or_parts _ _ suited).1).1).0
-  where
-    by : (has : Bool) → (has && not (takes_apart options || options.add)) ≡ false → has ≡ false
-    by false e = refl
-    by true e = absurd (true≢false (sym (ap₂ (λ apart add. not (apart || add)) together own) ∙ e))
+-- the columns of conditions, behind others
+abbrev with_conditions : List Column → List Condition → List Column
+with_conditions columns conditions = columns ++ map (λ (condition : Condition). condition.column) conditions
 
-pub json-parts : TablesMayHaveThem → AddedTablesMayHaveThem → SumsAreParts → JsonLinesAreParts
-json-parts made added sums source folders words task named outcome asks rows is below = elim is.1 [
+-- what no column is, nor that of a condition
+with_conditions-none : (p : Column → Bool) (columns : List Column) (conditions : List Condition) → list_any p columns ≡ false → list_any (λ (c : Condition). p c.column) conditions ≡ false → list_any p (with_conditions columns conditions) ≡ false
+with_conditions-none p [] [] none others = refl
+with_conditions-none p [] (condition ∷ conditions) none others =
+    let parts = or_parts (p condition.column) _ others in
+    ap₂ (λ a b. a || b) parts.0 (with_conditions-none p [] conditions none parts.1)
+with_conditions-none p (column ∷ columns) conditions none others =
+    let parts = or_parts (p column) _ none in
+    ap₂ (λ a b. a || b) parts.0 (with_conditions-none p columns conditions parts.1 others)
+
+-- no file's name is a column of one run's table
+file-none : (options : Options) (has : Bool) → (has && not (takes_apart options || options.add)) ≡ false → options.add ≡ false → takes_apart options ≡ false → has ≡ false
+file-none options false rule own together = refl
+file-none options true rule own together = absurd (true≢false (sym (ap₂ (λ apart add. not (apart || add)) together own) ∙ rule))
+
+-- what options that are sound ask of a table of runs
+module _ (options : Options) (asked : Asked) (sound : AreSound options asked) (table : TableOptions) (is : IsOptions options asked table) (own : options.add ≡ false) where
+  columns-are : columns_of table ≡ with_conditions asked.columns asked.conditions
+  columns-are = ap₂ with_conditions is.columns is.narrowing.conditions
+
+  asked-suited : AreColumns asked.of asked.columns → All (λ (c : Condition). goes_with asked.of c.column ≡ true) asked.conditions → All (λ column. goes_with table.of column ≡ true) (columns_of table)
+  asked-suited are tests =
+      let goes = λ (column : Column). goes_with asked.of column ≡ true in
+      subst (λ (of : Of). All (λ column. goes_with of column ≡ true) (columns_of table)) (sym is.of)
+      (subst (All goes) (sym columns-are) (All-append goes asked.columns (map (λ (c : Condition). c.column) asked.conditions) are.suited (All-map goes (λ (c : Condition). c.column) asked.conditions tests)))
+
+  asked-no_file : takes_apart options ≡ false → list_any is_file (columns_of table) ≡ false
+  asked-no_file together =
+      let columns = (or_parts _ _ (or_parts _ _ sound.suited).1).1 in
+      let conditions = (or_parts _ _ sound.tested).1 in
+      ap (list_any is_file) columns-are
+      ∙ with_conditions-none is_file asked.columns asked.conditions (file-none options _ (or_parts _ _ columns).0 own together) (file-none options _ (or_parts _ _ conditions).0 own together)
+
+pub json-parts : TablesMayHaveThem → AddedTablesMayHaveThem → ConditionsMayTestThem → JsonLinesAreParts
+json-parts made added tested source folders words task named outcome asks rows is below = elim is.1 [
   | inl ended ↦
       let of = ended.1.2 in
-      let text = outcome.output.items in
-      let prints = subst (λ asked. PrintsText source task.items task.options of.base of.files asked text outcome.lines.items outcome.warnings.items) rows of.prints in
-      by of.files prints.made asks.0.add (takes_apart asks.0) refl refl asks.2.3.1
+      let prints = subst (λ asked. PrintsText source task.items task.options of.base of.files asked outcome.output.items outcome.lines.items outcome.warnings.items) rows of.prints in
+      by of.files prints.made options.add (takes_apart options) refl refl asks.2.2.1
   | inr stopped ↦ absurd (omega (arith, stopped.0, below))
 ]
   where
     options : Options
     options = asks.0
 
-    given : (columns : List Column) → task.options.columns.items ≡ columns → (own : Of) → ((All (λ column. goes_with own column ≡ true) columns → (columns ≡ []) ⊎ AreColumns own columns)) →
-        All (λ column. goes_with own column ≡ true) task.options.columns.items → (task.options.columns.items ≡ []) ⊎ AreColumns own task.options.columns.items
-    given columns same own may = subst (λ (cs : List Column). All (λ column. goes_with own column ≡ true) cs → (cs ≡ []) ⊎ AreColumns own cs) (sym same) may
+    asked : Asked
+    asked = asks.2.0
+
+    given : IsOptions options asked task.options
+    given = asks.2.2.3
+
+    suited : options.add ≡ false → All (λ column. goes_with task.options.of column ≡ true) (columns_of task.options)
+    suited own = asked-suited options asked asks.2.1 task.options given own (made options asked asks.2.1 own) (tested options asked asks.2.1 own)
 
     columns : options.add ≡ false → AreColumns task.options.of task.options.columns.items
-    columns adds = subst (AreColumns task.options.of) (sym asks.2.3.3.1) (subst (λ (of : Of). AreColumns of asks.2.1) (sym asks.2.3.3.0) (made options asks.2.0 asks.2.1 asks.2.2 adds))
+    columns own = subst (AreColumns task.options.of) (sym given.columns) (subst (λ (of : Of). AreColumns of asked.columns) (sym given.of) (made options asked asks.2.1 own))
+
+    may : options.add ≡ true → (own : Of) → All (λ column. goes_with own column ≡ true) task.options.columns.items → (task.options.columns.items ≡ []) ⊎ AreColumns own task.options.columns.items
+    may adds own = subst (λ (cs : List Column). All (λ column. goes_with own column ≡ true) cs → (cs ≡ []) ⊎ AreColumns own cs) (sym given.columns) (added options own asked asks.2.1 adds)
 
     by : (listed : Listed) → MakesJson source task.items task.options listed outcome.output.items → (add apart : Bool) → options.add ≡ add → takes_apart options ≡ apart →
         task.items ≡ cond add Printed (cond apart (Apart (settings_of options)) (Together (settings_of options))) → (unit : TimeUnit) × (part : SpanTable) × IsPart unit outcome.output.items part
     by listed prints true apart adds takes items =
-        part-of_parts source task.options listed outcome.output.items sums
-        (λ own. given asks.2.1 asks.2.3.3.1 own (λ goes. added options asks.2.0 own asks.2.1 asks.2.2 adds goes))
+        part-of_parts source task.options listed outcome.output.items (may adds) (subst (λ (i : Items). MakesJson source i task.options listed outcome.output.items) items prints)
+    by listed prints false true own takes items =
+        part-of_files source task.options listed outcome.output.items (settings_of options) (columns own) (suited own)
         (subst (λ (i : Items). MakesJson source i task.options listed outcome.output.items) items prints)
-    by listed prints false true adds takes items =
-        part-of_files source task.options listed outcome.output.items (settings_of options) (columns adds)
-        (subst (λ (i : Items). MakesJson source i task.options listed outcome.output.items) items prints)
-    by listed prints false false adds takes items =
-        part-of_run source task.options listed outcome.output.items (settings_of options) (columns adds)
-        (ap (list_any is_file) asks.2.3.3.1 ∙ file-none options asks.2.0 asks.2.1 asks.2.2.suited adds takes)
+    by listed prints false false own takes items =
+        part-of_run source task.options listed outcome.output.items (settings_of options) (columns own) (suited own)
+        (asked-no_file options asked asks.2.1 task.options given own takes)
         (subst (λ (i : Items). MakesJson source i task.options listed outcome.output.items) items prints)

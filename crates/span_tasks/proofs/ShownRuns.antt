@@ -1,13 +1,13 @@
 -- Files that are shown, one after another.
 use Rattle.std.specs.Prelude.{map, nat_le}
-use Rattle.std.proofs.{Common.{◌≡◌, ◌<◌, ℕ, ◌≤◌, true, false, cond, List, [], ◌∷◌, ◌++◌, length, ap, sym, subst, arith}, lemmas.{Bool.Decides.nat_tests, List.map_push, Slice.Zip.AllZip-long}}
+use Rattle.std.proofs.{Common.{◌≡◌, ◌<◌, ℕ, ◌≤◌, true, false, cond, List, [], ◌∷◌, ◌++◌, length, Option, ap, sym, subst, arith}, lemmas.{Bool.Decides.nat_tests, List.map_push, Slice.Zip.AllZip-long}}
 use Rattle.span_collect.proofs.{InTurn.Accounted.{AreAlike-in_turn, end_lines-in_turn, refusals_of-in_turn}, OneFile.AreSeparate-one}
 use Rattle.span_page.proofs.{RunsSoFar.Holds-alike, SamePages.{left_behind-follows, run_json-alike}}
 use Rattle.span_runs.proofs.GatheredFiles.{AreGathered-none, AreGathered-push}
 use Rattle.span_tasks.specs.{Input, Settings, ends_from, journal_in_turn, SpanColumn, BegunPage, Holds, ShownRun, TakesRun, FileRun, IsFileRun, AreInputs, IsInput, Name, SourceBytes, shortened, PageView, Pages.{AreHeld, ShowsFile, asked_for, shown_alone, shown_run, shown_runs}, declared.pages.ShownFiles.ShownFiles}
 
 -- what was collected of a file may stand for the run in which its items stand in their order
-pub TakesRun-alone : (labels : List SpanColumn) (source : SourceBytes) (name : Name) (settings : Settings) (run : FileRun) (old new : BegunPage) →
+pub TakesRun-alone : (labels : List SpanColumn) (source : SourceBytes) (name : Name) (settings : Settings) (run : FileRun) (old new : Option BegunPage) →
     IsFileRun source name settings run → TakesRun settings.unit labels (shown_run run) old new → TakesRun settings.unit labels (shown_alone settings run.file) old new
 TakesRun-alone labels source name settings run old new is takes runs holds =
     let files = run.file ∷ [] in

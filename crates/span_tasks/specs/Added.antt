@@ -1,6 +1,6 @@
 -- Tables that were printed are read and added.
 use Rattle.std.specs.{List.AllZip, Prelude.{◌≡◌, ◌⊎◌, ℕ, ◌+◌, ◌<◌, ◌≤◌, ◌^◌, true, false, List, [], ◌∷◌, length, Option}}
-use Rattle.span_tasks.specs.{Bytes, FileCountFault, NotTableFault, OtherColumnsFault, number_of, fault_line, run_line, unread_line, AreFirst, SourceBytes, Name, printed, Chooses, HasColumns, HasOtherColumns, IsNoPart, LacksColumn, PartSum, SumsParts, TakesPart, IsPart, goes_by, Column, Number, SpanTable, TimeUnit}
+use Rattle.span_tasks.specs.{Bytes, FileCountFault, NotTableFault, OtherColumnsFault, number_of, fault_line, run_line, unread_line, AreFirst, SourceBytes, Name, printed, Chooses, HasColumns, HasOtherColumns, IsNoPart, LacksColumn, PartSum, SumsParts, TakesPart, IsPart, goes_by, Column, Number, SpanTable, TableOptions, TimeUnit, Summed.tested_in}
 use Rattle.span_parts.specs.declared.fault.PartFault.{PartFault, TheVariants.{NotTable, OtherColumns}}
 
 -- the most bytes that a table may have
@@ -41,8 +41,8 @@ pub record AddsBeside (source : SourceBytes) (kind : PartSum) (names : List Name
   pub sums : SumsParts texts sum
 
 -- parts by the columns that are asked for, with the number that rows are to go by
-pub record AreAsked (wanted : List Column) (by : Option Number) (parts : PartSum) : Type 0 where
-  pub chooses : Chooses wanted parts
+pub record AreAsked (options : TableOptions) (by : Option Number) (parts : PartSum) : Type 0 where
+  pub chooses : Chooses options.columns.items (tested_in options) parts
   pub number : goes_by parts.of by ≡ true
 
 -- the table of this name is of the kind of these parts
@@ -50,9 +50,9 @@ abbrev pub IsOfKind : SourceBytes → Name → PartSum → Type 0
 IsOfKind source name parts = (text : Bytes) × IsText source name text × HasColumns parts.of parts.unit parts.columns text
 
 -- the table of the first of these names is of the kind of these parts, which have what is asked for
-abbrev pub AreOfFirst : SourceBytes → List Column → Option Number → List Name → PartSum → Type 0
-AreOfFirst source wanted by [] parts = ⊥
-AreOfFirst source wanted by (name ∷ later) parts = AreAsked wanted by parts × IsOfKind source name parts
+abbrev pub AreOfFirst : SourceBytes → TableOptions → Option Number → List Name → PartSum → Type 0
+AreOfFirst source options by [] parts = ⊥
+AreOfFirst source options by (name ∷ later) parts = AreAsked options by parts × IsOfKind source name parts
 
 -- a number that rows are to go by is missing from the table of this text
 pub record LacksNumber (by : Option Number) (text : Bytes) : Type 0 where
@@ -62,8 +62,8 @@ pub record LacksNumber (by : Option Number) (text : Bytes) : Type 0 where
   pub lacks : goes_by part.of by ≡ false
 
 -- a column, or the number, that is asked for is missing
-abbrev pub LacksAsked : List Column → Option Number → Bytes → Type 0
-LacksAsked wanted by text = LacksColumn wanted text ⊎ LacksNumber by text
+abbrev pub LacksAsked : TableOptions → Option Number → Bytes → Type 0
+LacksAsked options by text = LacksColumn options.columns.items (tested_in options) text ⊎ LacksNumber by text
 
 -- this is said of a name that was not read, or whose text is too long for a table
 abbrev pub IsNoText : SourceBytes → Name → Bytes → Type 0
@@ -86,9 +86,9 @@ abbrev pub AreTooMany : List Name → Bytes → Type 0
 AreTooMany names lines = (2 ^ 32 ≤ length names) × (lines ≡ run_line (number_of FileCountFault))
 
 -- this is said of the first name, whose table begins parts, or there is none
-abbrev pub StopsFirst : SourceBytes → List Column → Option Number → List Name → Bytes → Type 0
-StopsFirst source wanted by [] lines = lines ≡ run_line (number_of FileCountFault)
-StopsFirst source wanted by (name ∷ later) lines = StopsAdding source (LacksAsked wanted by) name lines
+abbrev pub StopsFirst : SourceBytes → TableOptions → Option Number → List Name → Bytes → Type 0
+StopsFirst source options by [] lines = lines ≡ run_line (number_of FileCountFault)
+StopsFirst source options by (name ∷ later) lines = StopsAdding source (LacksAsked options by) name lines
 
 -- the parts are of the table of this name alone
 pub record BeginsWith (source : SourceBytes) (name : Name) (parts : PartSum) : Type 0 where

@@ -1,7 +1,7 @@
 -- Files that are summed on many machines, and tables that are added in whatever groups.
 use Rattle.std.specs.{List.{AllZip, Sorted.IsPermutation}, Prelude.{◌≡◌, ◌⊎◌, Bool, true, false, List, [], ◌∷◌, ◌++◌, map, All, Contains, Some}}
 use Rattle.span_request.specs.declared.tasks.Items.TheVariants.{Apart as EachApart, Printed, Together}
-use Rattle.span_tasks.specs.{Bytes, Input, Settings, IsAccounted, run_alone, run_of_files, AreInputs, Listed, shorter, SourceBytes, TimeUnit, Column, Of, Run, table_of, IsPrint, Wanted, shown_table, chosen, Items, TableOptions, Tabulations.MakesJson, Together.EndsWell, declared.together.TogetherRun.TogetherRun}
+use Rattle.span_tasks.specs.{Bytes, Input, Settings, IsAccounted, run_alone, run_of_files, AreInputs, Listed, shorter, SourceBytes, TimeUnit, Column, Of, Run, table_of, IsPrint, Wanted, shown_table, chosen, is_plain, Items, TableOptions, Summed.tested_in, Tabulations.MakesJson, Together.EndsWell, declared.together.TogetherRun.TogetherRun}
 
 mutual
   -- A run of the program that prints a table as JSON Lines: of files, each apart or together, or of tables that others printed.
@@ -56,7 +56,7 @@ abbrev mutual
   -- the kind of what a fleet prints
   pub kind_of : Fleet → TableKind
   kind_of (of_files source apart settings options listed) = record { of = options.of; unit = settings.unit; columns = options.columns.items }
-  kind_of (of_printed source options listed parts) = record { of = (kind_of_first parts).of; unit = (kind_of_first parts).unit; columns = chosen options.columns.items (kind_of_first parts).columns }
+  kind_of (of_printed source options listed parts) = record { of = (kind_of_first parts).of; unit = (kind_of_first parts).unit; columns = chosen options.columns.items (tested_in options) (kind_of_first parts).columns }
 
   -- that of the first of some tables, which the others have too
   pub kind_of_first : Fleets → TableKind
@@ -69,15 +69,15 @@ all_rows = record { only = []; skip = [] }
 
 -- no column of tables that are added is dropped
 abbrev pub KeepsColumns : TableOptions → Fleets → Type 0
-KeepsColumns options parts = All (Contains (chosen options.columns.items (kind_of_first parts).columns)) (kind_of_first parts).columns
+KeepsColumns options parts = All (Contains (chosen options.columns.items (tested_in options) (kind_of_first parts).columns)) (kind_of_first parts).columns
 
 abbrev mutual
-  -- A fleet shows these rows: it is asked for them, of all rows of its parts; or each of the parts shows them, none of their columns is
-  -- dropped, and it is asked for the same, or for all.
+  -- A fleet, of which nothing is narrowed, shows these rows: it is asked for them, of all rows of its parts; or each of the parts shows
+  -- them, none of their columns is dropped, and it is asked for the same, or for all.
   pub Shows : Wanted → Fleet → Type 0
-  Shows wanted (of_files source apart settings options listed) = options.shown ≡ wanted
-  Shows wanted (of_printed source options listed parts) = ((options.shown ≡ wanted) × ShowEach all_rows parts)
-      ⊎ (((options.shown ≡ wanted) ⊎ (options.shown ≡ all_rows)) × KeepsColumns options parts × ShowEach wanted parts)
+  Shows wanted (of_files source apart settings options listed) = (is_plain options.narrowing ≡ true) × (options.shown ≡ wanted)
+  Shows wanted (of_printed source options listed parts) = (is_plain options.narrowing ≡ true)
+      × (((options.shown ≡ wanted) × ShowEach all_rows parts) ⊎ (((options.shown ≡ wanted) ⊎ (options.shown ≡ all_rows)) × KeepsColumns options parts × ShowEach wanted parts))
 
   pub ShowEach : Wanted → Fleets → Type 0
   ShowEach wanted (one part) = Shows wanted part

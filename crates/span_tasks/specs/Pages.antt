@@ -1,6 +1,6 @@
 -- A page of files each of which is a run of its own.
-use Rattle.std.specs.Prelude.{◌≡◌, ◌⊎◌, ℕ, false, nat_le, if◌then◌else◌, List, [], ◌∷◌, ◌++◌, length, map, Result, MatchResult}
-use Rattle.span_tasks.specs.{Bytes, TooGreatFault, number_of, run_line, Unit, Input, Settings, ends_from, journal_in_turn, Holds, ShownRun, TakesRun, page_of_runs, FileRun, AddsFile, GathersFiles, IsSumOf, Listed, shortened, Halt, OfStop, StopsAfter, StopsAmong, Name, SourceBytes, PageView, Run, SpanTable, SummedTable, AllFit, json_fits, json_of, shown_table, warning_lines, Gathered, Warnings.absent_lines, declared.pages.ShownFiles.ShownFiles}
+use Rattle.std.specs.Prelude.{◌≡◌, ◌⊎◌, ℕ, nat_le, if◌then◌else◌, List, [], ◌∷◌, ◌++◌, length, map, Result, MatchResult}
+use Rattle.span_tasks.specs.{Bytes, Unit, Input, Settings, ends_from, journal_in_turn, Holds, ShownRun, TakesRun, page_of_runs, FileRun, AddsFile, GathersFiles, IsSumOf, Listed, shortened, Halt, OfStop, StopsAfter, StopsAmong, Name, SourceBytes, PageView, Run, SpanTable, SummedTable, json_of, narrowed, warning_lines, Gathered, Summed.columns_of, Texts.{PageExceeds, PageFits}, Warnings.absent_lines, declared.pages.ShownFiles.ShownFiles}
 
 -- the run of a file alone, in which its items stand in their order, as a page shows it
 abbrev pub shown_alone : Settings → Input → ShownRun
@@ -12,7 +12,11 @@ shown_runs settings files = if nat_le (length files) 64 then map (shown_alone se
 
 -- the runs come to the table that the page has of them
 abbrev pub asked_for : PageView → List Run → SummedTable → Type 0
-asked_for view = IsSumOf view.options.of view.options.columns.items
+asked_for view = IsSumOf view.options.of (columns_of view.options)
+
+-- what a page shows of the table of its runs
+abbrev pub seen : PageView → SpanTable → SpanTable
+seen view table = narrowed view.options.narrowing table
 
 -- the page of these runs, with this table
 abbrev pub page_with : Unit → PageView → SpanTable → List ShownRun → Bytes
@@ -23,21 +27,20 @@ page_with unit view table runs = page_of_runs unit view.labels.items (json_of un
 pub record PrintsPage (source : SourceBytes) (files : Listed) (settings : Settings) (view : PageView) (text lines warnings : Bytes) : Type 0 where
   pub summed : Gathered SummedTable
   pub sums : GathersFiles source files.names.items settings (shortened files.cut (asked_for view)) summed
-  pub fits : AllFit (shown_table view.options.shown summed.runs.table)
-  pub page : text ≡ page_with settings.unit view summed.runs.table (shown_runs settings sums.files)
+  pub fits : PageFits view.options.shown (seen view summed.runs.table) text
+  pub page : text ≡ page_with settings.unit view (seen view summed.runs.table) (shown_runs settings sums.files)
   pub said : lines ≡ summed.said.lines.items
-  pub warned : warnings ≡ warning_lines summed.said.warnings.items ++ absent_lines view.options.columns.items (summed.runs.table ∷ [])
+  pub warned : warnings ≡ warning_lines summed.said.warnings.items ++ absent_lines view.options.columns.items (seen view summed.runs.table ∷ [])
 
--- the files were summed, and a number of the table has more than 64 bits, as the line says
-pub record HasTooGreat (source : SourceBytes) (files : Listed) (settings : Settings) (view : PageView) (lines : Bytes) : Type 0 where
+-- each file was collected alone, and the page of their runs exceeds a bound, as the line says
+pub record StopsShown (source : SourceBytes) (files : Listed) (settings : Settings) (view : PageView) (lines : Bytes) : Type 0 where
   pub summed : Gathered SummedTable
   pub sums : GathersFiles source files.names.items settings (shortened files.cut (asked_for view)) summed
-  pub exceeds : json_fits view.options.shown summed.runs.table ≡ false
-  pub said : lines ≡ run_line (number_of TooGreatFault)
+  pub exceeds : PageExceeds view.options.shown (seen view summed.runs.table) (page_with settings.unit view (seen view summed.runs.table) (shown_runs settings sums.files)) lines
 
 -- this is said where no page is printed
 abbrev pub StopsPage : SourceBytes → Listed → Settings → PageView → Bytes → Type 0
-StopsPage source files settings view lines = StopsAmong source settings files.names.items lines ⊎ HasTooGreat source files settings view lines
+StopsPage source files settings view lines = StopsAmong source settings files.names.items lines ⊎ StopsShown source files settings view lines
 
 -- each of the files was collected alone, and is summed, with so much of its name left out; the page has these runs of them so far
 pub record AreHeld (runs_of : List Input → List ShownRun) (source : SourceBytes) (cut : ℕ) (names : List Name) (settings : Settings) (view : PageView) (shown : ShownFiles) : Type 0 where

@@ -21,6 +21,6 @@ pub record HasPart (source : SourceBytes) (of : Of) (unit : TimeUnit) (columns :
 -- Parts that sum the same, in one unit and by the same columns, are added by these columns: it stops only where there are too many, or
 -- one isn't read.
 abbrev pub PartsAreAdded : Type 0
-PartsAreAdded = (source : SourceBytes) (of : Of) (unit : TimeUnit) (columns : List Column) (options : TableOptions) (names : List Name) (lines : Bytes) → options.columns.items ≡ [] → 0 < length names
+PartsAreAdded = (source : SourceBytes) (of : Of) (unit : TimeUnit) (columns : List Column) (options : TableOptions) (names : List Name) (lines : Bytes) → options.columns.items ≡ [] → options.narrowing.conditions.items ≡ [] → 0 < length names
     → All (HasPart source of unit columns) names → StopsOneSide source Printed options None false names lines →
     AreTooMany names lines ⊎ ((name : Name) × Contains names name × (lines ≡ unread_line (printed name)))

@@ -1,7 +1,7 @@
 -- Tables as they are gathered: those of one side, or of two that are compared.
-use Rattle.std.specs.Prelude.{◌≡◌, ◌⊎◌, ⊤, Bool, true, false, List, [], ◌∷◌, ◌++◌, map, Option, MatchResult, Result}
+use Rattle.std.specs.Prelude.{◌≡◌, ◌⊎◌, ⊤, Bool, true, false, List, [], ◌∷◌, ◌++◌, map, take, Option, MatchResult, Result}
 use Rattle.span_request.specs.declared.tasks.Items.TheVariants.{Apart as EachApart, Printed, Together}
-use Rattle.span_tasks.specs.{Bytes, AreSeparate, Settings, warnings_of, AreGathered, shortened, Listed, Halt, OfStop, StopsAmong, run_in_turn, run_of_files, table_of_run, SourceBytes, Name, PartSum, Column, Of, Number, Run, SpanTable, picked, table_of, Items, TableOptions, Added.{Adds, AddsBeside, AddsEach, AreOfFirst, AreTooMany, BeginsWith, StopsFirst, StopsNext}, Together.{EndsWell, StopsTogether}, declared.{printed.PrintedBase.PrintedBase, side.Side.Side, together.TogetherRun.TogetherRun}}
+use Rattle.span_tasks.specs.{Bytes, AreSeparate, Settings, warnings_of, AreGathered, shortened, Listed, Halt, OfStop, StopsAmong, run_in_turn, run_of_files, table_of_run, SourceBytes, Name, PartSum, Column, Of, Number, Run, SpanTable, picked, table_of, Items, Narrowing, TableOptions, narrowed, shown_of, Summed.columns_of, Added.{Adds, AddsBeside, AddsEach, AreOfFirst, AreTooMany, BeginsWith, StopsFirst, StopsNext}, Together.{EndsWell, StopsTogether}, declared.{printed.PrintedBase.PrintedBase, side.Side.Side, together.TogetherRun.TogetherRun}}
 
 -- one table of all runs, or a table of each
 abbrev pub ComeTo : Bool → Of → List Column → List Run → List SpanTable → Type 0
@@ -44,8 +44,8 @@ JoinsSums first second both = (source : SourceBytes) (kind : PartSum) (names mor
 pub record IsOfRun (source : SourceBytes) (names : List Name) (settings : Settings) (options : TableOptions) (side : Side) : Type 0 where
   pub run : TogetherRun
   pub ended : EndsWell source names settings run
-  pub is : side.tables.items ≡ table_of_run options.of options.columns.items (run_of_files run.inputs.items run.collected.end.ends.items run.collected.ledger.journal) ∷ []
-  pub in_turn : AreSeparate settings.unit run.inputs.items → side.tables.items ≡ table_of_run options.of options.columns.items (run_in_turn settings run.inputs.items) ∷ []
+  pub is : side.tables.items ≡ table_of_run options.of (columns_of options) (run_of_files run.inputs.items run.collected.end.ends.items run.collected.ledger.journal) ∷ []
+  pub in_turn : AreSeparate settings.unit run.inputs.items → side.tables.items ≡ table_of_run options.of (columns_of options) (run_in_turn settings run.inputs.items) ∷ []
   pub said : side.said.lines.items ≡ run.lines.items
   pub warned : side.said.warnings.items ≡ warnings_of run.inputs.items run.collected.end.ends.items run.collected.ledger.journal
 
@@ -53,7 +53,7 @@ pub record IsOfRun (source : SourceBytes) (names : List Name) (settings : Settin
 pub record AreOptions (settings : Settings) (options : TableOptions) (side : Side) : Type 0 where
   pub unit : side.unit ≡ settings.unit
   pub of : side.of ≡ options.of
-  pub columns : side.columns.items ≡ options.columns.items
+  pub columns : side.columns.items ≡ columns_of options
 
 -- the tables are of what printed ones are
 pub record AreOfParts (parts : PartSum) (side : Side) : Type 0 where
@@ -66,15 +66,15 @@ abbrev pub IsPrintedSide : SourceBytes → Bool → PartSum → List Name → Si
 IsPrintedSide source each parts names side = AreOfParts parts side × AddTo each source parts names side.tables.items × (side.said.lines.items ≡ [])
 
 -- what is named gives these tables; where they are printed ones, they are of the kind of these parts
-abbrev pub IsSide : SourceBytes → Items → TableOptions → Bool → PartSum → Listed → Side → Type 0
-IsSide source (Together settings) options each parts files side = AreOptions settings options side × IsOfRun source files.names.items settings options side
-IsSide source (EachApart settings) options each parts files side = AreOptions settings options side
-    × AreGathered source files.names.items settings (λ runs. shortened files.cut (ComeTo each options.of options.columns.items) runs side.tables.items) side.said
-IsSide source Printed options each parts files side = IsPrintedSide source each parts files.names.items side
+abbrev pub Gathers : SourceBytes → Items → TableOptions → Bool → PartSum → Listed → Side → Type 0
+Gathers source (Together settings) options each parts files side = AreOptions settings options side × IsOfRun source files.names.items settings options side
+Gathers source (EachApart settings) options each parts files side = AreOptions settings options side
+    × AreGathered source files.names.items settings (λ runs. shortened files.cut (ComeTo each options.of (columns_of options)) runs side.tables.items) side.said
+Gathers source Printed options each parts files side = IsPrintedSide source each parts files.names.items side
 
 -- the first of printed tables is of this kind, and has the columns and the number that are asked for
 abbrev pub AreOfKind : SourceBytes → Items → TableOptions → Option Number → List Name → PartSum → Type 0
-AreOfKind source Printed options by names parts = AreOfFirst source options.columns.items by names parts
+AreOfKind source Printed options by names parts = AreOfFirst source options by names parts
 AreOfKind source items options by names parts = ⊤
 
 -- this is said where what is named gives no tables of the kind of these parts
@@ -83,22 +83,44 @@ StopsSide source (Together settings) each parts names lines = StopsTogether sour
 StopsSide source (EachApart settings) each parts names lines = StopsAmong source settings names lines
 StopsSide source Printed each parts names lines = StopsLater source each parts names lines ⊎ AreTooMany names lines
 
--- one side
-pub record IsOneSide (source : SourceBytes) (items : Items) (options : TableOptions) (by : Option Number) (each : Bool) (files : Listed) (side : Side) : Type 0 where
+-- one side as it is gathered
+pub record IsGathered (source : SourceBytes) (items : Items) (options : TableOptions) (by : Option Number) (each : Bool) (files : Listed) (side : Side) : Type 0 where
   pub parts : PartSum
   pub kind : AreOfKind source items options by files.names.items parts
-  pub is : IsSide source items options each parts files side
+  pub is : Gathers source items options each parts files side
+
+-- two sides as they are gathered, which give tables of one kind
+pub record AreBothGathered (source : SourceBytes) (items : Items) (options : TableOptions) (by : Option Number) (each : Bool) (base_files files : Listed) (base other : Side) : Type 0 where
+  pub parts : PartSum
+  pub kind : AreOfKind source items options by base_files.names.items parts
+  pub earlier : Gathers source items options each parts base_files base
+  pub later : Gathers source items options each parts files other
+
+-- a side's tables are narrowed, and are by the columns that are shown
+pub record IsNarrowed (narrowing : Narrowing) (old new : Side) : Type 0 where
+  pub unit : new.unit ≡ old.unit
+  pub of : new.of ≡ old.of
+  pub columns : new.columns.items ≡ take (shown_of narrowing.conditions.items old.columns.items) old.columns.items
+  pub tables : new.tables.items ≡ map (narrowed narrowing) old.tables.items
+  pub said : new.said ≡ old.said
+
+-- one side
+pub record IsOneSide (source : SourceBytes) (items : Items) (options : TableOptions) (by : Option Number) (each : Bool) (files : Listed) (side : Side) : Type 0 where
+  pub all : Side
+  pub gathered : IsGathered source items options by each files all
+  pub narrows : IsNarrowed options.narrowing all side
 
 -- two sides, which give tables of one kind
 pub record AreSides (source : SourceBytes) (items : Items) (options : TableOptions) (by : Option Number) (each : Bool) (base_files files : Listed) (base other : Side) : Type 0 where
-  pub parts : PartSum
-  pub kind : AreOfKind source items options by base_files.names.items parts
-  pub earlier : IsSide source items options each parts base_files base
-  pub later : IsSide source items options each parts files other
+  pub all_base : Side
+  pub all_other : Side
+  pub gathered : AreBothGathered source items options by each base_files files all_base all_other
+  pub narrows_base : IsNarrowed options.narrowing all_base base
+  pub narrows_other : IsNarrowed options.narrowing all_other other
 
 -- the first of printed tables tells the kind, or this is said of it, or of their number
 abbrev pub StopsKind : SourceBytes → Items → TableOptions → Option Number → List Name → Bytes → Type 0
-StopsKind source Printed options by names lines = StopsFirst source options.columns.items by names lines ⊎ AreTooMany names lines
+StopsKind source Printed options by names lines = StopsFirst source options by names lines ⊎ AreTooMany names lines
 StopsKind source items options by names lines = ⊥
 
 -- this is said where a side gives no tables
@@ -111,7 +133,7 @@ pub record StopsBehind (source : SourceBytes) (items : Items) (options : TableOp
   pub parts : PartSum
   pub kind : AreOfKind source items options by base_files.names.items parts
   pub base : Side
-  pub earlier : IsSide source items options each parts base_files base
+  pub earlier : Gathers source items options each parts base_files base
   pub own : Bytes
   pub later : StopsSide source items each parts files.names.items own
   pub said : lines ≡ base.said.lines.items ++ own
@@ -123,5 +145,5 @@ StopSides source items options by each base_files files lines =
 
 -- printed tables are of the kind of these parts, which is the one that is asked for
 pub record IsPrintedBase (source : SourceBytes) (options : TableOptions) (by : Option Number) (each : Bool) (names : List Name) (base : PrintedBase) : Type 0 where
-  pub asked : AreOfFirst source options.columns.items by names base.kind
+  pub asked : AreOfFirst source options by names base.kind
   pub is : IsPrintedSide source each base.kind names base.side

@@ -1,8 +1,8 @@
--- The texts of tables.
-use Rattle.std.specs.Prelude.{◌≡◌, Bool, true, false, Option, Some, None, List}
+-- The texts of tables, and the bounds of pages that have one.
+use Rattle.std.specs.Prelude.{◌≡◌, ◌≤◌, ◌⊎◌, Bool, true, false, Option, Some, None, List, length}
 use Rattle.span_request.specs.declared.views.ComparisonForm.TheVariants as changes
 use Rattle.span_request.specs.declared.views.RepeatsForm.TheVariants as repeats
-use Rattle.span_tasks.specs.{Bytes, Unit, Column, Of, Number, usual_by, SpanTable, Wanted, IsPrint, json_fits, shown_table, ranking_of, comparison_of, json_changes_fit, json_comparison_of, json_repeats_fit, json_repeats_of, repeats_of, ComparisonForm, RepeatsForm, TableForm, Json, Ranking}
+use Rattle.span_tasks.specs.{Bytes, PageTooLargeFault, TooGreatFault, number_of, run_line, IsTooLong, most_bytes, AllFit, Unit, Column, Of, Number, usual_by, SpanTable, Wanted, IsPrint, json_fits, shown_table, ranking_of, comparison_of, json_changes_fit, json_comparison_of, json_repeats_fit, json_repeats_of, repeats_of, ComparisonForm, RepeatsForm, TableForm, Json, Ranking}
 
 -- the number that rows go by: the named one, or the usual one of what a table sums
 abbrev pub asked_by : Of → Option Number → Number
@@ -40,3 +40,13 @@ repeats_text unit of columns by repeats.Json shown base other = json_repeats_of 
 abbrev pub repeats_fit : Of → Option Number → RepeatsForm → Wanted → List SpanTable → List SpanTable → Bool
 repeats_fit of by (repeats.Text most) shown base other = true
 repeats_fit of by repeats.Json shown base other = json_repeats_fit (asked_by of by) shown base other
+
+-- a page: what is shown of its table has numbers of 64 bits, and the page is not too long
+pub record PageFits (shown : Wanted) (table : SpanTable) (page : Bytes) : Type 0 where
+  pub numbers : AllFit (shown_table shown table)
+  pub within : length page ≤ most_bytes
+
+-- a number has more bits, or else the page is too long, as the line says
+abbrev pub PageExceeds : Wanted → SpanTable → Bytes → Bytes → Type 0
+PageExceeds shown table page lines = ((json_fits shown table ≡ false) × (lines ≡ run_line (number_of TooGreatFault)))
+    ⊎ (AllFit (shown_table shown table) × IsTooLong page × (lines ≡ run_line (number_of PageTooLargeFault)))

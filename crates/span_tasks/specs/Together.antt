@@ -1,7 +1,7 @@
 -- What is named, collected as one run, and what is printed of it.
 use Rattle.std.specs.Prelude.{◌≡◌, ◌<◌, ◌≤◌, ◌⊎◌, ⊤, Bool, true, false, if◌then◌else◌, List, [], ◌∷◌, ◌++◌, Contains}
 use Rattle.span_request.specs.declared.views.View.{View, TheVariants.{Folded, Page, Refusals, Report}}
-use Rattle.span_tasks.specs.{Bytes, Entry, FileEnd, Input, Settings, RunError, StacksFault, TooGreatFault, number_of, report_of, refusals_of, most_names, folded_of, names_of, page_of, AreSeparate, IsNotCollected, SealedAccount, TextOf, run_code, status_of, text_in_turn, IsHint, warning_lines, warnings_of, fault_text, run_line, unread_line, AreInputs, SourceBytes, Name, printed, run_of_files, table_of_run, Unit, PageView, SpanTable, AllFit, json_fits, json_of, shown_table, Warnings.absent_lines, declared.together.TogetherRun.TogetherRun}
+use Rattle.span_tasks.specs.{Bytes, Entry, FileEnd, Input, Settings, RunError, StacksFault, number_of, report_of, refusals_of, most_names, folded_of, names_of, page_of, AreSeparate, IsNotCollected, SealedAccount, TextOf, run_code, status_of, text_in_turn, IsHint, warning_lines, warnings_of, fault_text, run_line, unread_line, AreInputs, SourceBytes, Name, printed, run_of_files, table_of_run, Unit, PageView, SpanTable, json_of, narrowed, Summed.columns_of, Texts.{PageExceeds, PageFits}, Warnings.absent_lines, declared.together.TogetherRun.TogetherRun}
 
 -- what is named was read and collected as one run, and a journal accounts for it
 pub record IsTogether (source : SourceBytes) (names : List Name) (settings : Settings) (run : TogetherRun) : Type 0 where
@@ -38,7 +38,7 @@ StopsTogether source names settings lines = ((name : Name) × Contains names nam
 
 -- the table of a page, for these files, which ended so
 abbrev pub page_table : PageView → List Input → List FileEnd → List Entry → SpanTable
-page_table view files ends journal = table_of_run view.options.of view.options.columns.items (run_of_files files ends journal)
+page_table view files ends journal = narrowed view.options.narrowing (table_of_run view.options.of (columns_of view.options) (run_of_files files ends journal))
 
 -- this view of what was collected in this unit
 abbrev pub text_of : Unit → View → List Input → TextOf
@@ -47,17 +47,17 @@ text_of unit Refusals files ends journal = refusals_of unit files ends journal
 text_of unit (Folded labels) files ends journal = folded_of labels.items journal
 text_of unit (Page view) files ends journal = page_of unit view.labels.items (json_of unit view.options.shown (page_table view files ends journal)) files ends journal
 
--- folded stacks have no more names than they may, and numbers of a page's table have 64 bits; any other text has no such bound
-abbrev pub Fits : View → List Input → List FileEnd → List Entry → Type 0
-Fits (Folded labels) files ends journal = names_of labels.items journal ≤ most_names
-Fits (Page view) files ends journal = AllFit (shown_table view.options.shown (page_table view files ends journal))
-Fits view files ends journal = ⊤
+-- folded stacks have no more names than they may, and a page fits; any other text has no such bound
+abbrev pub Fits : Unit → View → List Input → List FileEnd → List Entry → Type 0
+Fits unit (Folded labels) files ends journal = names_of labels.items journal ≤ most_names
+Fits unit (Page view) files ends journal = PageFits view.options.shown (page_table view files ends journal) (text_of unit (Page view) files ends journal)
+Fits unit view files ends journal = ⊤
 
--- folded stacks have more names, or a number has more bits, as the line says
-abbrev pub Exceeds : View → List Input → List FileEnd → List Entry → Bytes → Type 0
-Exceeds (Folded labels) files ends journal lines = (most_names < names_of labels.items journal) × (lines ≡ run_line (number_of StacksFault))
-Exceeds (Page view) files ends journal lines = (json_fits view.options.shown (page_table view files ends journal) ≡ false) × (lines ≡ run_line (number_of TooGreatFault))
-Exceeds view files ends journal lines = ⊥
+-- folded stacks have more names, as the line says, or a page exceeds a bound
+abbrev pub Exceeds : Unit → View → List Input → List FileEnd → List Entry → Bytes → Type 0
+Exceeds unit (Folded labels) files ends journal lines = (most_names < names_of labels.items journal) × (lines ≡ run_line (number_of StacksFault))
+Exceeds unit (Page view) files ends journal lines = PageExceeds view.options.shown (page_table view files ends journal) (text_of unit (Page view) files ends journal) lines
+Exceeds unit view files ends journal lines = ⊥
 
 -- the lines of files of which events were refused, where these are warned of
 abbrev pub warned_if : Bool → List Input → List FileEnd → List Entry → Bytes
@@ -76,7 +76,7 @@ warned_of_view (Page view) files ends journal = warned_if true files ends journa
 pub record Collects (source : SourceBytes) (names : List Name) (settings : Settings) (view : View) (text lines warnings : Bytes) : Type 0 where
   pub run : TogetherRun
   pub ended : EndsWell source names settings run
-  pub fits : Fits view run.inputs.items run.collected.end.ends.items run.collected.ledger.journal
+  pub fits : Fits settings.unit view run.inputs.items run.collected.end.ends.items run.collected.ledger.journal
   pub is : text ≡ text_of settings.unit view run.inputs.items run.collected.end.ends.items run.collected.ledger.journal
   pub in_turn : AreSeparate settings.unit run.inputs.items → text ≡ text_in_turn (text_of settings.unit view run.inputs.items) run.inputs.items [] settings
   pub said : lines ≡ run.lines.items
@@ -86,7 +86,7 @@ pub record Collects (source : SourceBytes) (names : List Name) (settings : Setti
 pub record HasExceeded (source : SourceBytes) (names : List Name) (settings : Settings) (view : View) (lines : Bytes) : Type 0 where
   pub run : TogetherRun
   pub ended : EndsWell source names settings run
-  pub exceeds : Exceeds view run.inputs.items run.collected.end.ends.items run.collected.ledger.journal lines
+  pub exceeds : Exceeds settings.unit view run.inputs.items run.collected.end.ends.items run.collected.ledger.journal lines
 
 -- this is said where no view is printed
 abbrev pub StopsCollecting : SourceBytes → List Name → Settings → View → Bytes → Type 0

@@ -1,8 +1,8 @@
 -- What is warned of behind a text of tables: files of which events were refused, and columns that no span has.
 use Rattle.std.specs.{List.list_any, Prelude.{ℕ, ◌+◌, nat_lt, ◌&&◌, not, if◌then◌else◌, Bool, true, false, List, [], ◌∷◌, ◌++◌, length, slice_get, codes, Option, Some}}
 use Rattle.span_request.specs.declared.tasks.Items.TheVariants.{Printed}
-use Rattle.span_tasks.specs.{Bytes, Warning, Items, Column, SpanTable, column_name, is_argument, json_text_of, warning_lines}
-use Rattle.span_table.specs.{Columns.Value, declared.table.Row.Row}
+use Rattle.span_tasks.specs.{Bytes, Warning, Items, Column, SpanTable, column_name, json_text_of, warning_lines}
+use Rattle.span_table.specs.{Columns.Value, declared.{column.Column.TheVariants.{Argument, ParentArgument}, table.Row.Row}}
 
 abbrev pub is_value : Option Value → Bool
 is_value (Some (Some value)) = true
@@ -23,9 +23,15 @@ has_rows table = nat_lt 0 (length table.rows)
 unfoldable pub absent_line : Column → Bytes
 absent_line column = codes "tracebook: warning: no span has " ++ (json_text_of (column_name column) ++ 10 ∷ [])
 
+-- the column is an argument, of a span or of its parent
+abbrev pub is_some_argument : Column → Bool
+is_some_argument (Argument key) = true
+is_some_argument (ParentArgument key) = true
+is_some_argument column = false
+
 -- the column is an argument, and no row of the tables has a value at its place
 abbrev pub is_absent : ℕ → Column → List SpanTable → Bool
-is_absent place column tables = is_argument column && not (list_any (has_column place) tables)
+is_absent place column tables = is_some_argument column && not (list_any (has_column place) tables)
 
 -- the lines of such columns, the first of which has this place
 abbrev pub absent_from : ℕ → List Column → List SpanTable → Bytes

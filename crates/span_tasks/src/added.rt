@@ -3,6 +3,7 @@ ghost use Rattle.std.specs.Prelude.{◌≡◌, ◌≤◌, length, true, IfErr, I
 ghost use Rattle.span_tasks.specs.{HasOtherColumns, OfStop, Added.{AddsEach, AreAsked, BeginsWith, IsNoText, IsTableBeside, IsText, LacksAsked, SaysPart, StopsAdding, TakesName}, Sides.{AddsBehind, AddsOrStops, AddsToFirst, JoinsSums, StopsLater}, places};
 
 use crate::place::Place;
+use crate::summed::tested_in;
 use span_event::Fault;
 use span_names::HashKeys;
 use span_parts::{PartFault, Parts};
@@ -34,16 +35,19 @@ impl<'a, R: Threads + Wait + RandomSource + Sync, S: Source + Sync> Place<'a, R,
         by: Option<Number>,
         name: &Name,
     ) -> Result<Parts, Halt>
-        ensures asked { IfOk result (AreAsked options.now.columns.items by) }
+        ensures asked { IfOk result (AreAsked options.now by) }
         ensures first { IfOk result (BeginsWith (S.bytes self.now.source.now) name.now) }
         ensures stop { IfErr result (OfStop (StopsAdding (S.bytes self.now.source.now)
-            (LacksAsked options.now.columns.items by) name.now)) }
+            (LacksAsked options.now by) name.now)) }
     {
         let text = match read_table(self.alloc, self.source, name) {
             Ok(text) => text,
             Err(halt) => return Err(halt),
         };
-        let parts = match Parts::of_first(self.alloc, keys, &options.columns, &text) {
+        let Ok(tested) = tested_in(self.alloc, options) else {
+            return Err(Halt::Memory);
+        };
+        let parts = match Parts::of_first(self.alloc, keys, &options.columns, &tested, &text) {
             Ok(parts) => parts,
             Err(fault) => return Err(halt_of_part(self.alloc, name, fault)),
         };

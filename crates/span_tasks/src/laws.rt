@@ -1,7 +1,6 @@
 //! What holds of tables that are printed, read back and added, as a fleet does whose machines sum files.
 ghost use Rattle.span_tasks.specs.{Fleet.{FleetsLoseNothing, FleetsPrintAlike}, ReadBack.{JsonLinesAreParts, PartsAreAdded}};
 
-use span_parts::laws::sum_law;
 use span_request::laws::columns_law;
 
 /// However files are divided over runs of the program, and in whatever groups and order the tables that these print are added, the last
@@ -18,6 +17,5 @@ pub fn read_back_law()
     ensures printed { JsonLinesAreParts }
     ensures added { PartsAreAdded }
 {
-    sum_law();
     columns_law();
 }

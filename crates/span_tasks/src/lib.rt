@@ -13,6 +13,7 @@ mod requests;
 mod session;
 mod side;
 mod sides;
+mod summed;
 mod tabulation;
 mod texts;
 mod together;

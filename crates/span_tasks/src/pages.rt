@@ -1,15 +1,17 @@
 //! A page of files each of which is a run of its own.
-ghost use Rattle.std.specs.Prelude.{◌≡◌, [], false, List, length, map, IfErr, IfOk};
-ghost use Rattle.span_tasks.specs.{Unit as TheUnit, Holds, OfStop, ShownRun, StopsAmong, TakesRun, TooGreatFault, AllFit, json_fits, number_of, run_line, shown_table, Outcome.PrintsOrStops, Pages.{AddsShown, AreHeld, PrintsPage, StopsPage, asked_for, page_with, shown_alone, shown_run, shown_runs}};
+ghost use Rattle.std.specs.Prelude.{◌≡◌, [], List, length, map, IfErr, IfOk};
+ghost use Rattle.span_tasks.specs.{Unit as TheUnit, Holds, OfStop, ShownRun, StopsAmong, TakesRun, Outcome.PrintsOrStops, Pages.{AddsShown, AreHeld, PrintsPage, StopsPage, asked_for, page_with, shown_alone, shown_run, shown_runs}, Texts.{PageExceeds, PageFits}};
 
 use crate::outcome::Print;
 use crate::place::Place;
 use crate::side::Apart;
-use crate::texts::{TableTexts, string_of};
+use crate::summed::columns_of;
+use crate::texts::{TableTexts, halt_of_page, string_of};
 use crate::warnings::warned_of_page;
 use span_collect::Settings;
 use span_event::Unit;
 use span_names::HashKeys;
+use span_narrowing::narrowed;
 use span_page::RunsPage;
 use span_request::{PageView, TableForm};
 use span_runs::{FileRun, Gathered, Halt, Listed, Name, Source, collect_file};
@@ -51,7 +53,11 @@ impl<'a, R: Threads + Wait + RandomSource + Sync, S: Source + Sync> Place<'a, R,
         };
         let ShownFiles { summed, page, .. } = shown;
         let Gathered { runs: sum, said } = summed;
-        let Ok(table) = sum.into_table() else {
+        let Ok(all) = sum.into_table() else {
+            return Err(Halt::Memory);
+        };
+        let keys = HashKeys::random(self.rt);
+        let Ok(table) = narrowed(self.alloc, keys, &view.options.narrowing, all) else {
             return Err(Halt::Memory);
         };
         let Ok(warnings) = warned_of_page(self.alloc, view, &table, &said.warnings) else {
@@ -136,9 +142,10 @@ impl<'a, R: Threads + Wait + RandomSource + Sync, S: Source + Sync> Place<'a, R,
     {
         let options = &view.options;
         let keys = HashKeys::random(self.rt);
+        let columns = columns_of(self.alloc, options)?;
         Ok(ShownFiles {
             keys,
-            summed: Gathered::of_none(self.alloc, keys, options.of, &options.columns)?,
+            summed: Gathered::of_none(self.alloc, keys, options.of, &columns)?,
             page: RunsPage::begin(self.alloc)?,
         })
     }
@@ -169,8 +176,10 @@ impl<'a, R: Threads + Wait + RandomSource + Sync, S: Source + Sync> Place<'a, R,
         let Ok(page) = self.with_run(settings.unit, view, page, &taken) else {
             return Err(Halt::Memory);
         };
-        let options = &view.options;
-        match summed.with_run(self.alloc, keys, options.of, &options.columns, &taken) {
+        let Ok(columns) = columns_of(self.alloc, &view.options) else {
+            return Err(Halt::Memory);
+        };
+        match summed.with_run(self.alloc, keys, view.options.of, &columns, &taken) {
             Ok(summed) => Ok(ShownFiles { keys, summed, page }),
             Err(halt) => Err(halt),
         }
@@ -208,10 +217,11 @@ impl<'a, R: Threads + Wait + RandomSource + Sync, S: Source + Sync> Place<'a, R,
         ensures text { IfOk result (λ text. (runs : List ShownRun)
             → Holds unit view.now.labels.items runs page
             → text.items ≡ page_with unit view.now table runs) }
-        ensures fits { IfOk result (λ text. AllFit (shown_table view.now.options.shown table)) }
-        ensures stop { IfErr result (OfStop (λ lines.
-            (json_fits view.now.options.shown table ≡ false)
-            × (lines ≡ run_line (number_of TooGreatFault)))) }
+        ensures fits { IfOk result (λ text.
+            PageFits view.now.options.shown table text.items) }
+        ensures stop { IfErr result (OfStop (λ lines. (runs : List ShownRun)
+            → Holds unit view.now.labels.items runs page → PageExceeds view.now.options.shown table
+            (page_with unit view.now table runs) lines)) }
     {
         let texts = TableTexts {
             alloc: self.alloc,
@@ -229,7 +239,7 @@ impl<'a, R: Threads + Wait + RandomSource + Sync, S: Source + Sync> Place<'a, R,
         };
         match page.end(self.alloc, text) {
             Ok(page) => Ok(page),
-            Err(_) => Err(Halt::Memory),
+            Err(fault) => Err(halt_of_page(self.alloc, fault)),
         }
     }
 }

@@ -2,7 +2,7 @@
 ghost use Rattle.std.specs.Prelude.{◌≡◌, ◌∷◌, [], IfErr, IfOk};
 ghost use Rattle.span_request.specs.declared.tasks.Items.TheVariants.{Printed};
 ghost use Rattle.span_runs.specs.declared.stop.Halt.TheVariants.{Memory};
-ghost use Rattle.span_tasks.specs.{Name as TheName, IsHint, OfStop, Added.BeginsWith, Sides.{AddTo, AreSides, IsPrintedBase, StopSides, StopsLater, StopsOneSide}};
+ghost use Rattle.span_tasks.specs.{Name as TheName, IsHint, OfStop, Added.BeginsWith, Sides.{AddTo, AreBothGathered, IsPrintedBase, StopSides, StopsLater, StopsOneSide}};
 
 use crate::place::Place;
 use crate::side::{Side, only};
@@ -42,7 +42,7 @@ impl<'a, R: Threads + Wait + RandomSource + Sync, S: Source + Sync> Place<'a, R,
         base: &Listed,
         files: &Listed,
     ) -> Result<Sides, Halt>
-        ensures sides { IfOk result (λ sides. AreSides (S.bytes self.now.source.now) Printed
+        ensures sides { IfOk result (λ sides. AreBothGathered (S.bytes self.now.source.now) Printed
             wanted.entry.options.now wanted.entry.by wanted.entry.each base.now files.now sides.base sides.other) }
         ensures base_hints { IfOk result (λ sides. IsHint sides.base.hints.items) }
         ensures hints { IfOk result (λ sides. IsHint sides.other.hints.items) }

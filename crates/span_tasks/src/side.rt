@@ -1,13 +1,16 @@
 //! The tables of one side, as they are gathered.
 ghost use Rattle.std.specs.Prelude.{◌≡◌, ◌∷◌, ◌++◌, [], true, false, length, IfErr, IfOk};
 ghost use Rattle.span_runs.specs.declared.stop.Halt.TheVariants.{Memory};
-ghost use Rattle.span_tasks.specs.{AreGathered, GathersOrStops, IsHint, shortened, OfStop, StopsAmong, run_of_files, table_of_run, warnings_of, Sides.{AreOptions, ComeTo, IsOfRun}, Together.StopsTogether};
+ghost use Rattle.span_tasks.specs.{AreGathered, GathersOrStops, IsHint, shortened, OfStop, StopsAmong, run_of_files, table_of_run, warnings_of, Sides.{AreOptions, ComeTo, IsNarrowed, IsOfRun}, Summed.columns_of, Together.StopsTogether};
 
 use crate::place::Place;
+use crate::summed::columns_of;
 use crate::together::TogetherRun;
 use span_collect::Settings;
 use span_collect::refusals::warnings_of;
 use span_event::Unit;
+use span_names::HashKeys;
+use span_narrowing::narrowed;
 use span_request::TableOptions;
 use span_runs::{
     Gathered, Gathering, Halt, Listed, Name, Said, Source, Stop, gather_apart, table_of_run,
@@ -102,9 +105,9 @@ impl<'a, R: Threads + Wait + RandomSource + Sync, S: Source + Sync> Place<'a, R,
         requires { length run.inputs.items ≡ length run.collected.end.ends.items }
         ensures unit { IfOk result (λ side. side.unit ≡ unit) }
         ensures of { IfOk result (λ side. side.of ≡ options.now.of) }
-        ensures columns { IfOk result (λ side. side.columns.items ≡ options.now.columns.items) }
+        ensures columns { IfOk result (λ side. side.columns.items ≡ columns_of options.now) }
         ensures tables { IfOk result (λ side. side.tables.items
-            ≡ table_of_run options.now.of options.now.columns.items
+            ≡ table_of_run options.now.of (columns_of options.now)
             (run_of_files run.inputs.items run.collected.end.ends.items run.collected.ledger.journal)
             ∷ []) }
         ensures lines { IfOk result (λ side. side.said.lines ≡ run.lines) }
@@ -112,21 +115,22 @@ impl<'a, R: Threads + Wait + RandomSource + Sync, S: Source + Sync> Place<'a, R,
             ≡ warnings_of run.inputs.items run.collected.end.ends.items run.collected.ledger.journal) }
         ensures hints { IfOk result (λ side. side.hints ≡ run.hints) }
     {
-        let (alloc, of, columns) = (self.alloc, options.of, &options.columns);
+        let (alloc, of) = (self.alloc, options.of);
+        let columns = columns_of(self.alloc, options)?;
         let TogetherRun {
             inputs,
             collected,
             lines,
             hints,
         } = run;
-        let table = table_of_run(self.rt, alloc, of, columns, &inputs, &collected)?;
+        let table = table_of_run(self.rt, alloc, of, &columns, &inputs, &collected)?;
         let warnings = warnings_of(alloc, &collected.ledger, &inputs, &collected.end.ends)?;
         drop(inputs);
         self.let_go(collected);
         Ok(Side {
             unit,
             of,
-            columns: copies_of(alloc, columns)?,
+            columns,
             tables: only(alloc, table)?,
             said: Said { lines, warnings },
             hints,
@@ -142,7 +146,7 @@ impl<'a, R: Threads + Wait + RandomSource + Sync, S: Source + Sync> Place<'a, R,
     ) -> Result<Side, Halt>
         ensures side { IfOk result (λ side. AreOptions apart.now.settings options.now side
             × AreGathered (S.bytes self.now.source.now) files.now.names.items apart.now.settings
-            (λ runs. shortened files.now.cut (ComeTo false options.now.of options.now.columns.items)
+            (λ runs. shortened files.now.cut (ComeTo false options.now.of (columns_of options.now))
             runs side.tables.items) side.said) }
         ensures hints { IfOk result (λ side. IsHint side.hints.items) }
         ensures stop { IfErr result
@@ -171,7 +175,7 @@ impl<'a, R: Threads + Wait + RandomSource + Sync, S: Source + Sync> Place<'a, R,
     ) -> Result<Side, Halt>
         ensures side { IfOk result (λ side. AreOptions apart.now.settings options.now side
             × AreGathered (S.bytes self.now.source.now) files.now.names.items apart.now.settings
-            (λ runs. shortened files.now.cut (ComeTo true options.now.of options.now.columns.items)
+            (λ runs. shortened files.now.cut (ComeTo true options.now.of (columns_of options.now))
             runs side.tables.items) side.said) }
         ensures hints { IfOk result (λ side. IsHint side.hints.items) }
         ensures stop { IfErr result
@@ -194,13 +198,13 @@ impl<'a, R: Threads + Wait + RandomSource + Sync, S: Source + Sync> Place<'a, R,
     ) -> Result<Side, Halt>
         ensures unit { IfOk result (λ side. side.unit ≡ unit) }
         ensures of { IfOk result (λ side. side.of ≡ options.now.of) }
-        ensures columns { IfOk result (λ side. side.columns.items ≡ options.now.columns.items) }
+        ensures columns { IfOk result (λ side. side.columns.items ≡ columns_of options.now) }
         ensures tables { IfOk result (λ side. side.tables ≡ tables) }
         ensures said { IfOk result (λ side. side.said ≡ said) }
         ensures hints { IfOk result (λ side. side.hints.items ≡ []) }
         ensures memory { IfErr result (λ halt. halt ≡ Memory) }
     {
-        let Ok(columns) = copies_of(self.alloc, &options.columns) else {
+        let Ok(columns) = columns_of(self.alloc, options) else {
             return Err(Halt::Memory);
         };
         Ok(Side {
@@ -222,8 +226,11 @@ impl<'a, R: Threads + Wait + RandomSource + Sync, S: Source + Sync> Place<'a, R,
     ) -> Result<Gathered<T>, Halt>
         ensures { GathersOrStops (S.bytes self.now.source.now) files.now.names.items
             apart.now.settings
-            (shortened files.now.cut (T.come_to options.now.of options.now.columns.items)) result }
+            (shortened files.now.cut (T.come_to options.now.of (columns_of options.now))) result }
     {
+        let Ok(columns) = columns_of(self.alloc, options) else {
+            return Err(Halt::Memory);
+        };
         gather_apart(
             self.rt,
             self.alloc,
@@ -231,9 +238,32 @@ impl<'a, R: Threads + Wait + RandomSource + Sync, S: Source + Sync> Place<'a, R,
             files,
             &apart.settings,
             options.of,
-            &options.columns,
+            &columns,
             self.jobs_of(apart.jobs),
         )
+    }
+
+    /// The side with its tables narrowed, by the columns that are shown.
+    pub(crate) fn narrowed(&self, options: &TableOptions, side: Side) -> Result<Side, AllocError>
+        ensures narrowed { IfOk result (IsNarrowed options.now.narrowing side) }
+        ensures hints { IfOk result (λ new. new.hints ≡ side.hints) }
+    {
+        let narrowing = &options.narrowing;
+        let keys = HashKeys::random(self.rt);
+        let shown = side
+            .columns
+            .len()
+            .saturating_sub(narrowing.conditions.len());
+        let columns = copies_of(self.alloc, &side.columns[..shown])?;
+        let mut tables = Vec::with_capacity(self.alloc, side.tables.len())?;
+        for table in side.tables {
+            tables.push(narrowed(self.alloc, keys, narrowing, table)?)?;
+        }
+        Ok(Side {
+            columns,
+            tables,
+            ..side
+        })
     }
 
     /// How many jobs there are at once: so many, or one for each processor that the system grants.

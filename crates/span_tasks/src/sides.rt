@@ -1,6 +1,6 @@
 //! The tables that a text is made of: those of one side, or of two.
 ghost use Rattle.std.specs.Prelude.{IfErr, IfOk};
-ghost use Rattle.span_tasks.specs.{AreGathered, IsHint, shortened, OfStop, StopsAmong, Sides.{AreOptions, AreSides, ComeTo, IsOneSide, StopSides, StopsOneSide}};
+ghost use Rattle.span_tasks.specs.{AreGathered, IsHint, shortened, OfStop, StopsAmong, Sides.{AreBothGathered, AreOptions, AreSides, ComeTo, IsGathered, IsOneSide, StopSides, StopsOneSide}, Summed.columns_of};
 
 use crate::place::Place;
 use crate::side::{Apart, Side};
@@ -38,6 +38,24 @@ impl<'a, R: Threads + Wait + RandomSource + Sync, S: Source + Sync> Place<'a, R,
         ensures stop { IfErr result (OfStop (StopsOneSide (S.bytes self.now.source.now) wanted.entry.items
             wanted.entry.options.now wanted.entry.by wanted.entry.each files.now.names.items)) }
     {
+        let side = match self.gathered_side(wanted, files) {
+            Ok(side) => side,
+            Err(halt) => return Err(halt),
+        };
+        match self.narrowed(wanted.options, side) {
+            Ok(side) => Ok(side),
+            Err(_) => Err(Halt::Memory),
+        }
+    }
+
+    // The tables of what is named, as they are gathered.
+    fn gathered_side(&self, wanted: Wanted, files: &Listed) -> Result<Side, Halt>
+        ensures side { IfOk result (IsGathered (S.bytes self.now.source.now) wanted.entry.items
+            wanted.entry.options.now wanted.entry.by wanted.entry.each files.now) }
+        ensures hints { IfOk result (λ side. IsHint side.hints.items) }
+        ensures stop { IfErr result (OfStop (StopsOneSide (S.bytes self.now.source.now) wanted.entry.items
+            wanted.entry.options.now wanted.entry.by wanted.entry.each files.now.names.items)) }
+    {
         match wanted.items {
             Items::Together(settings) => match self.run_side(
                 &settings,
@@ -63,7 +81,7 @@ impl<'a, R: Threads + Wait + RandomSource + Sync, S: Source + Sync> Place<'a, R,
         ensures side { IfOk result (λ side. AreOptions settings wanted.entry.options.now side
             × AreGathered (S.bytes self.now.source.now) files.now.names.items settings
             (λ runs. shortened files.now.cut (ComeTo wanted.entry.each wanted.entry.options.now.of
-            wanted.entry.options.now.columns.items) runs side.tables.items) side.said) }
+            (columns_of wanted.entry.options.now)) runs side.tables.items) side.said) }
         ensures hints { IfOk result (λ side. IsHint side.hints.items) }
         ensures stop { IfErr result
             (OfStop (StopsAmong (S.bytes self.now.source.now) settings files.now.names.items)) }
@@ -92,14 +110,36 @@ impl<'a, R: Threads + Wait + RandomSource + Sync, S: Source + Sync> Place<'a, R,
         ensures stop { IfErr result (OfStop (StopSides (S.bytes self.now.source.now) wanted.entry.items
             wanted.entry.options.now wanted.entry.by wanted.entry.each base.now files.now)) }
     {
+        let Sides { base, other } = match self.gathered_sides(wanted, base, files) {
+            Ok(sides) => sides,
+            Err(halt) => return Err(halt),
+        };
+        let Ok(base) = self.narrowed(wanted.options, base) else {
+            return Err(Halt::Memory);
+        };
+        let Ok(other) = self.narrowed(wanted.options, other) else {
+            return Err(Halt::Memory);
+        };
+        Ok(Sides { base, other })
+    }
+
+    // Both sides as they are gathered.
+    fn gathered_sides(&self, wanted: Wanted, base: &Listed, files: &Listed) -> Result<Sides, Halt>
+        ensures sides { IfOk result (λ sides. AreBothGathered (S.bytes self.now.source.now) wanted.entry.items
+            wanted.entry.options.now wanted.entry.by wanted.entry.each base.now files.now sides.base sides.other) }
+        ensures base_hints { IfOk result (λ sides. IsHint sides.base.hints.items) }
+        ensures hints { IfOk result (λ sides. IsHint sides.other.hints.items) }
+        ensures stop { IfErr result (OfStop (StopSides (S.bytes self.now.source.now) wanted.entry.items
+            wanted.entry.options.now wanted.entry.by wanted.entry.each base.now files.now)) }
+    {
         if let Items::Printed = wanted.items {
             return self.printed_sides(wanted, base, files);
         }
-        let base = match self.one_side(wanted, base) {
+        let base = match self.gathered_side(wanted, base) {
             Ok(base) => base,
             Err(halt) => return Err(halt),
         };
-        match self.one_side(wanted, files) {
+        match self.gathered_side(wanted, files) {
             Ok(other) => Ok(Sides { base, other }),
             Err(Halt::Memory) => Err(Halt::Memory),
             Err(Halt::Stopped(stop)) => match base.before(stop) {

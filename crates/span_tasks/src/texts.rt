@@ -1,11 +1,13 @@
 //! The texts of tables.
 ghost use Rattle.std.specs.Prelude.{◌≡◌, true, false, string_bytes, IfOk, IfErr};
+ghost use Rattle.span_page.specs.declared.fault.PageFault.TheVariants.{TooLarge};
 ghost use Rattle.span_table_text.specs.declared.json_lines.JsonFault.TheVariants.{TooGreat};
-ghost use Rattle.span_tasks.specs.{OfStop, TooGreatFault, number_of, run_line, Texts.{IsTableText, TableExceeds, asked_by, changes_fit, changes_text, repeats_fit, repeats_text}};
+ghost use Rattle.span_tasks.specs.{OfStop, PageTooLargeFault, TooGreatFault, number_of, run_line, Texts.{IsTableText, TableExceeds, asked_by, changes_fit, changes_text, repeats_fit, repeats_text}};
 
 use crate::side::Side;
 use span_comparisons::{Comparing, comparison, json_comparison, json_repeats, repeats};
 use span_event::{Fault, Unit};
+use span_page::PageFault;
 use span_request::{ComparisonForm, RepeatsForm, Repetitions, TableForm};
 use span_runs::Halt;
 use span_table::{Number, Of, Table};
@@ -149,6 +151,17 @@ fn halt_of_text(alloc: Global, fault: JsonFault) -> Halt
     match fault {
         JsonFault::Memory => Halt::Memory,
         JsonFault::TooGreat => Halt::of_run(alloc, Fault::TooGreat.code()),
+    }
+}
+
+/// A page was not made.
+pub(crate) fn halt_of_page(alloc: Global, fault: PageFault) -> Halt
+    ensures { OfStop (λ lines. (fault ≡ TooLarge)
+        × (lines ≡ run_line (number_of PageTooLargeFault))) result }
+{
+    match fault {
+        PageFault::Memory => Halt::Memory,
+        PageFault::TooLarge => Halt::of_run(alloc, Fault::PageTooLarge.code()),
     }
 }
 

@@ -1,24 +1,28 @@
 //! What is named, collected as one run, and what is printed of it.
 ghost use Rattle.std.specs.Prelude.{◌≡◌, length, Contains, IfErr, IfOk};
-ghost use Rattle.span_tasks.specs.{Name as TheName, AreInputs, IsHint, OfStop, StacksFault as StacksTooLarge, number_of, fault_text, printed, run_line, run_code, unread_line, Outcome.PrintsOrStops, Together.{Collects, EndsWell, Exceeds, Fits, StopsCollecting, StopsTogether, text_of, warned_if, warned_of_view}};
+ghost use Rattle.span_tasks.specs.{Name as TheName, AreInputs, IsHint, OfStop, StacksFault as StacksTooLarge, number_of, fault_text, printed, run_line, run_code, unread_line, Outcome.PrintsOrStops, narrowed, run_of_files, table_of_run, Summed.columns_of, Together.{Collects, EndsWell, Exceeds, Fits, StopsCollecting, StopsTogether, text_of, warned_if, warned_of_view}};
 ghost use Rattle.span_runs.specs.declared.stop.Halt.TheVariants.{Memory as OutOfMemory};
 ghost use Rattle.span_report.specs.declared.stacks.fault.StacksFault.TheVariants.{TooLarge};
 ghost use Rattle.span_request.specs.declared.views.View.TheVariants.{Page as OfPage};
 
 use crate::outcome::Print;
 use crate::place::Place;
-use crate::texts::{TableTexts, string_of};
+use crate::summed::columns_of;
+use crate::texts::{TableTexts, halt_of_page, string_of};
 use crate::warnings::warned_of_page;
 use span_collect::refusals::{refusals, warnings_of};
 use span_collect::{Collected, Input, RunError, Settings, collect_to_ledger};
 use span_event::{Fault, Unit};
 use span_faults::{fault_text, hints_of, many_files, warning_lines};
+use span_names::HashKeys;
+use span_narrowing::narrowed;
 use span_page::page;
 use span_report::report;
 use span_report::stacks::{StacksFault, folded};
-use span_request::{PageView, TableForm, View};
+use span_request::{PageView, TableForm, TableOptions, View};
 use span_runs::{Halt, Name, Source, Stop, read_input, table_of_run};
-use std::alloc::Global;
+use span_table::Table;
+use std::alloc::{AllocError, Global};
 use std::random::RandomSource;
 use std::sync::Wait;
 use std::thread::Threads;
@@ -155,9 +159,9 @@ impl<'a, R: Threads + Wait + RandomSource + Sync, S: Source + Sync> Place<'a, R,
             collected.now.end.ends.items collected.now.ledger.journal) }
         ensures warnings { IfOk result (λ made. made.warnings.items ≡ warned_of_view view.now
             files.now collected.now.end.ends.items collected.now.ledger.journal) }
-        ensures fits { IfOk result (λ made. Fits view.now files.now
+        ensures fits { IfOk result (λ made. Fits unit view.now files.now
             collected.now.end.ends.items collected.now.ledger.journal) }
-        ensures stop { IfErr result (OfStop (Exceeds view.now files.now
+        ensures stop { IfErr result (OfStop (Exceeds unit view.now files.now
             collected.now.end.ends.items collected.now.ledger.journal)) }
     {
         let ledger = &collected.ledger;
@@ -192,14 +196,13 @@ impl<'a, R: Threads + Wait + RandomSource + Sync, S: Source + Sync> Place<'a, R,
             files.now collected.now.end.ends.items collected.now.ledger.journal) }
         ensures warnings { IfOk result (λ made. made.warnings.items
             ≡ warned_of_view (OfPage view.now) files.now collected.now.end.ends.items collected.now.ledger.journal) }
-        ensures fits { IfOk result (λ made. Fits (OfPage view.now) files.now
+        ensures fits { IfOk result (λ made. Fits unit (OfPage view.now) files.now
             collected.now.end.ends.items collected.now.ledger.journal) }
-        ensures stop { IfErr result (OfStop (Exceeds (OfPage view.now) files.now
+        ensures stop { IfErr result (OfStop (Exceeds unit (OfPage view.now) files.now
             collected.now.end.ends.items collected.now.ledger.journal)) }
     {
         let (alloc, options, ends) = (self.alloc, &view.options, &collected.end.ends);
-        let (of, columns) = (options.of, &options.columns);
-        let Ok(table) = table_of_run(self.rt, alloc, of, columns, files, collected) else {
+        let Ok(table) = self.page_table(options, files, collected) else {
             return Err(Halt::Memory);
         };
         let Ok(refused) = warnings_of(alloc, &collected.ledger, files, ends) else {
@@ -225,8 +228,26 @@ impl<'a, R: Threads + Wait + RandomSource + Sync, S: Source + Sync> Place<'a, R,
         let (ledger, labels) = (&collected.ledger, &view.labels);
         match page(alloc, unit, ledger, files, ends, labels, text) {
             Ok(text) => Ok(Made { text, warnings }),
-            Err(_) => Err(Halt::Memory),
+            Err(fault) => Err(halt_of_page(alloc, fault)),
         }
+    }
+
+    // The table of a page, of what was collected of these files.
+    fn page_table(
+        &self,
+        options: &TableOptions,
+        files: &[Input],
+        collected: &Collected,
+    ) -> Result<Table, AllocError>
+        requires { length files.now ≡ length collected.now.end.ends.items }
+        ensures { IfOk result (λ table. table ≡ narrowed options.now.narrowing
+            (table_of_run options.now.of (columns_of options.now)
+            (run_of_files files.now collected.now.end.ends.items collected.now.ledger.journal))) }
+    {
+        let columns = columns_of(self.alloc, options)?;
+        let all = table_of_run(self.rt, self.alloc, options.of, &columns, files, collected)?;
+        let keys = HashKeys::random(self.rt);
+        narrowed(self.alloc, keys, &options.narrowing, all)
     }
 }
 

@@ -63,7 +63,7 @@ impl<'a> Tabled<'a> {
     fn lacks(self, place: usize, column: &Column) -> bool
         ensures { result ≡ is_absent place column.now (self.entry.tables.now ++ self.entry.more.now) }
     {
-        matches!(column, Column::Argument(_))
+        matches!(column, Column::Argument(_) | Column::ParentArgument(_))
             && !any_has_column(self.tables, place)
             && !any_has_column(self.more, place)
     }
