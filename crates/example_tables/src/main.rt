@@ -2,8 +2,8 @@
 #![tactic(auto)]
 
 use span_tasks::{
-    Column, DEFAULT_SETTINGS, Files, Items, LinesTo, Named, Number, Of, Place, Request, Session,
-    Shown, TableForm, TableOptions, TableText, Tabulation, Task, Text, Unwatched, Writer,
+    Column, DEFAULT_SETTINGS, Files, Items, LinesTo, Named, Narrowing, Number, Of, Place, Request,
+    Session, Shown, TableForm, TableOptions, TableText, Tabulation, Task, Text, Unwatched, Writer,
 };
 use std::alloc::{AllocError, Global};
 use std::process::ExitCode;
@@ -14,6 +14,10 @@ fn request_of(alloc: Global, given: Vec<Text>) -> Result<Request, AllocError> {
     let options = TableOptions {
         of: Of::Spans,
         columns: Vec::from_array(alloc, [Column::Name])?,
+        narrowing: Narrowing {
+            conditions: Vec::new(alloc),
+            merges: false,
+        },
         shown: Shown { only, skip },
     };
     let by = Some(Number::Total);

@@ -1,9 +1,9 @@
 -- Sides as they come together.
-use Rattle.std.proofs.{Common.{◌≡◌, ◌≤◌, Bool, true, List, [], ◌∷◌, ◌++◌, length, map, Option, inl, inr, refl, ap, ◌∙◌, arith}, lemmas.{List.length-map, Slice.Zip.AllZip-long}}
+use Rattle.std.proofs.{Common.{◌≡◌, Bool, List, [], ◌++◌, Option, inl, inr, refl}}
 use Rattle.span_event.specs.declared.unit.Unit.TheVariants.{Microseconds}
 use Rattle.span_table.specs.declared.of.Of.TheVariants.{Spans}
 use Rattle.span_request.specs.declared.tasks.Items.TheVariants.{Apart as EachApart, Printed, Together}
-use Rattle.span_tasks.specs.{Bytes, Listed, Number, Name, SourceBytes, Items, PartSum, SpanTable, TableOptions, run_alone, shorter, table_of, table_of_run, Added.Adds, Sides.{AreBothGathered, Gathers, IsGathered, StopSides, StopsOneSide, StopsSide}, declared.side.Side.Side}
+use Rattle.span_tasks.specs.{Bytes, Listed, Number, Name, SourceBytes, Items, PartSum, TableOptions, table_of, Sides.{AreBothGathered, Gathers, IsGathered, StopSides, StopsOneSide, StopsSide}, declared.side.Side.Side}
 
 -- parts of no tables, where no kind is asked for
 pub no-parts : PartSum

@@ -1,6 +1,6 @@
 -- Tables that were printed are read and added.
 use Rattle.std.specs.{List.AllZip, Prelude.{◌≡◌, ◌⊎◌, ℕ, ◌+◌, ◌<◌, ◌≤◌, ◌^◌, true, false, List, [], ◌∷◌, length, Option}}
-use Rattle.span_tasks.specs.{Bytes, FileCountFault, NotTableFault, OtherColumnsFault, number_of, fault_line, run_line, unread_line, AreFirst, SourceBytes, Name, printed, Chooses, HasColumns, HasOtherColumns, IsNoPart, LacksColumn, PartSum, SumsParts, TakesPart, IsPart, goes_by, Column, Number, SpanTable, TableOptions, TimeUnit, Summed.tested_in}
+use Rattle.span_tasks.specs.{Bytes, FileCountFault, NotTableFault, OtherColumnsFault, number_of, fault_line, run_line, unread_line, AreFirst, SourceBytes, Name, printed, Chooses, HasColumns, HasOtherColumns, IsNoPart, LacksColumn, PartSum, SumsParts, TakesPart, IsPart, goes_by, Number, SpanTable, TableOptions, TimeUnit, Summed.tested_in}
 use Rattle.span_parts.specs.declared.fault.PartFault.{PartFault, TheVariants.{NotTable, OtherColumns}}
 
 -- the most bytes that a table may have

@@ -1,5 +1,5 @@
 -- What is named, collected as one run, and what is printed of it.
-use Rattle.std.specs.Prelude.{◌≡◌, ◌<◌, ◌≤◌, ◌⊎◌, ⊤, Bool, true, false, if◌then◌else◌, List, [], ◌∷◌, ◌++◌, Contains}
+use Rattle.std.specs.Prelude.{◌≡◌, ◌<◌, ◌≤◌, ◌⊎◌, ⊤, Bool, true, if◌then◌else◌, List, [], ◌∷◌, ◌++◌, Contains}
 use Rattle.span_request.specs.declared.views.View.{View, TheVariants.{Folded, Page, Refusals, Report}}
 use Rattle.span_tasks.specs.{Bytes, Entry, FileEnd, Input, Settings, RunError, StacksFault, number_of, report_of, refusals_of, most_names, folded_of, names_of, page_of, AreSeparate, IsNotCollected, SealedAccount, TextOf, run_code, status_of, text_in_turn, IsHint, warning_lines, warnings_of, fault_text, run_line, unread_line, AreInputs, SourceBytes, Name, printed, run_of_files, table_of_run, Unit, PageView, SpanTable, json_of, narrowed, Summed.columns_of, Texts.{PageExceeds, PageFits}, Warnings.absent_lines, declared.together.TogetherRun.TogetherRun}
 

@@ -26,6 +26,7 @@ pub use place::Place;
 pub use session::Session;
 pub use span_collect::Settings;
 pub use span_event::{Text, Unit};
+pub use span_narrowing::{Condition, Narrowing};
 pub use span_report::{Sink, SinkFault, Writer};
 pub use span_request::{
     Changes, ComparisonForm, DEFAULT_SETTINGS, Items, PageView, RepeatsForm, Repetitions, Request,
