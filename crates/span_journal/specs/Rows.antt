@@ -1,6 +1,6 @@
 -- The rows of a journal, in the order in which a report prints them.
 use Rattle.std.specs.{Ordering.int_cmp, Prelude.{◌+◌, ◌<◌, ◌^◌, if◌then◌else◌, ℕ, ℤ, List, length, map, filter_map, flat_map, count_by, Some, None}}
-use Rattle.span_journal.specs.{Bytes, same_text, text_cmp, thread_cmp, Span, busy_time, named, total_of, self_of, AsyncRow, SeriesRow, FlowRow, InstantRow, async_rows as track_async_rows, series_rows as track_series_rows, instant_rows as track_instant_rows, flow_rows as track_flow_rows, ascending, Holder, Names, names_in, depth_of, closed_spans, Thread, Journal.{Accepted, accepted}, Kind.is_of, Told.{listed_by, process_listed_by, thread_events, async_events, flow_events, counter_events, meta_events}, declared.{entry.{Answer.Answer, Entry.Entry}, kind.Kind.{Kind, TheVariants.{Accepted as accepted_kind, Refused as refused_kind, Skipped as skipped_kind, Replied as replied_kind, Sealed as sealed_kind}}, rows.{CountRow.CountRow, ProcessRow.ProcessRow, SpanRow.SpanRow, ThreadRow.ThreadRow}}}
+use Rattle.span_journal.specs.{Bytes, same_text, text_cmp, thread_cmp, Span, busy_time, named, total_of, self_of, AsyncKey, AsyncRow, SeriesRow, FlowRow, InstantRow, async_cmp, async_spans, steps_at, async_rows as track_async_rows, series_rows as track_series_rows, instant_rows as track_instant_rows, flow_rows as track_flow_rows, ascending, Holder, Names, names_in, depth_of, closed_spans, Thread, Journal.{Accepted, accepted}, Kind.is_of, Told.{listed_by, process_listed_by, thread_events, async_events, flow_events, counter_events, meta_events}, declared.{entry.{Answer.Answer, Entry.Entry}, kind.Kind.{Kind, TheVariants.{Accepted as accepted_kind, Refused as refused_kind, Skipped as skipped_kind, Replied as replied_kind, Sealed as sealed_kind}}, rows.{CountRow.CountRow, ProcessRow.ProcessRow, SpanRow.SpanRow, ThreadRow.ThreadRow}}}
 
 -- how many entries have an answer of this kind
 abbrev pub count_of : Kind → List Entry → ℕ
@@ -84,6 +84,10 @@ span_rows journal = flat_map (thread_span_rows journal) (thread_keys (accepted j
 -- the asynchronous keys that have an accepted event, in their order
 abbrev pub async_rows : List Entry → List AsyncRow
 async_rows journal = track_async_rows (async_events (accepted journal))
+
+-- the length of the longest closed span of an asynchronous key; 0 where it has none
+abbrev pub longest_async : List Entry → AsyncKey → ℕ
+longest_async journal key = (async_spans (steps_at async_cmp key (async_events (accepted journal)))).longest
 
 -- the instants of each thread, name and reach, in their order
 abbrev pub instant_rows : List Entry → List InstantRow

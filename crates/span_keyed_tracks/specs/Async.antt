@@ -1,5 +1,5 @@
 -- Asynchronous spans: begins, ends and points of a key, which no thread holds together.
-use Rattle.std.specs.{Ordering.ordering_then, Prelude.{◌≡◌, ℕ, ◌+◌, ◌<◌, ◌^◌, ◌-◌, Bool, true, false, if◌then◌else◌, ℤ, int_lt, List, [], ◌∷◌, ◌++◌, length, map, sum, count_by, Option, Some, None, Result, Ok, Err}, declared.cmp.Ordering.Ordering}
+use Rattle.std.specs.{Ordering.ordering_then, Prelude.{◌≡◌, ℕ, ◌+◌, ◌<◌, ◌^◌, ◌-◌, Bool, true, false, if◌then◌else◌, ℤ, int_lt, List, [], ◌∷◌, ◌++◌, fold, length, map, max, sum, count_by, Option, Some, None, Result, Ok, Err}, declared.cmp.Ordering.Ordering}
 use Rattle.span_event.specs.declared.fault.Fault.{Fault}
 use Rattle.span_keyed_tracks.specs.{NoOpenAsync, EndBeforeBegin, id_cmp, text_cmp, distance, Fault.refusal_of, Keyed.{Keyed, entries_in, kept_at}, Matching.{Step, other, opener, open_of, closed_by, closed_of}, declared.{async_track.{AsyncRow.AsyncRow, AsyncTotals.AsyncTotals}, keys.AsyncKey.AsyncKey}}
 
@@ -16,11 +16,12 @@ AsyncStep = Step ℤ ℤ ⊥ (Unit {0})
 abbrev pub AsyncEvent : Type 0
 AsyncEvent = Keyed AsyncKey AsyncStep
 
--- the begins that no end matches, how many pairs match, their lengths together, and how many points there are
+-- the begins that no end matches, how many pairs match, their lengths together and the greatest of them, and how many points there are
 pub record AsyncSpans : Type 0 where
   pub opened : List ℤ
   pub closed : ℕ
   pub total : ℕ
+  pub longest : ℕ
   pub points : ℕ
 
 -- the length of the span from a begin to the end that matches it
@@ -54,6 +55,7 @@ async_spans steps = record {
   opened = open_of steps;
   closed = length (closed_lengths steps);
   total = sum (closed_lengths steps);
+  longest = fold max 0 (closed_lengths steps);
   points = count_by is_point steps;
 }
 

@@ -134,6 +134,16 @@ impl AsyncTrack {
         }
     }
 
+    /// The length of the longest closed span of the key; 0 where there is none. Takes no memory.
+    pub fn longest(&self, key: &AsyncKey) -> u64
+        ensures { result ≡ (async_spans_at self.now key.now).longest }
+    {
+        match hashed::find(&self.keys, key) {
+            Some(spans) => spans.longest(),
+            None => 0,
+        }
+    }
+
     /// The row of each key that has an event, in ascending order of keys.
     pub fn rows(&self, alloc: Global) -> Result<Vec<AsyncRow>, AllocError>
         ensures { IfOk result (λ rows. rows.items ≡ map async_row self.now) }

@@ -13,6 +13,7 @@ pub(crate) struct KeySpans {
     opened: Vec<i64>,
     closed: u32,
     total: u128,
+    longest: u64,
     points: u32,
 }
 
@@ -21,10 +22,10 @@ impl Model for KeySpans {
 
     ghost Value = { AsyncSpans };
 
-    ghost view = { λ s. record { opened = s.opened.items; closed = s.closed; total = s.total; points = s.points } };
+    ghost view = { λ s. record { opened = s.opened.items; closed = s.closed; total = s.total; longest = s.longest; points = s.points } };
 
     ghost invariant = { λ s. AreBounded
-        (record { opened = s.opened.items; closed = s.closed; total = s.total; points = s.points }) };
+        (record { opened = s.opened.items; closed = s.closed; total = s.total; longest = s.longest; points = s.points }) };
 }
 
 impl KeySpans {
@@ -35,6 +36,7 @@ impl KeySpans {
             opened: Vec::new(alloc),
             closed: 0,
             total: 0,
+            longest: 0,
             points: 0,
         }
     }
@@ -69,6 +71,7 @@ impl KeySpans {
         self.opened.pop();
         self.closed += 1;
         self.total += u128::from(length);
+        self.longest = self.longest.max(length);
         Ok(length)
     }
 
@@ -77,6 +80,12 @@ impl KeySpans {
         ensures { self.new ≡ with_point self.old }
     {
         self.points += 1;
+    }
+
+    pub(crate) fn longest(&self) -> u64
+        ensures { result ≡ self.now.longest }
+    {
+        self.longest
     }
 
     pub(crate) fn totals(&self) -> AsyncTotals

@@ -1,4 +1,4 @@
-use Rattle.std.specs.Prelude.{nat_abs, int_lt}
+use Rattle.std.specs.Prelude.{nat_abs, int_lt, max}
 use Rattle.std.proofs.{Common.{rules, ◌≡◌, ◌-◌, ◌-ℤ◌, ℤ, true, false, List, length, take, slice_get, Some, refl, sym, ap, ap₂, ◌∙◌, w64, to_z, of_z, arith}, lemmas.Int.ints}
 use Rattle.span_keyed_tracks.specs.{IsTime, distance, Async.AsyncSpans, AsyncKept.with_end, Last.{last_of, without_last}}
 use Rattle.span_keyed_tracks.proofs.{Async.{AreBounded-with_end, nat_abs-distance}, Lists.Last.{slice_get-last, take-without_last, All-last_of}}
@@ -25,10 +25,12 @@ invariant_of-self c =
     let ts = same_time c.args.ts c.requires.in_time in
     let begin = same_time c.in-Some.begin.now (All-last_of IsTime c.self.inside.opened.items c.self.invariant.in_time c.in-Some.begin.now found) in
     let later : int_lt c.args.ts c.in-Some.begin.now ≡ false = sym (ap₂ int_lt ts begin) ∙ c.if-ts-begin.false in
-    let lasts : c.from.result ≡ distance c.in-Some.begin.now c.args.ts = c.from.ensures ∙ c.abs_diff-length.ensures ∙ ap₂ (λ a b. nat_abs (a -ℤ b)) ts begin ∙ nat_abs-distance c.in-Some.begin.now c.args.ts later in
+    let lasts : c.abs_diff-length.result ≡ distance c.in-Some.begin.now c.args.ts = c.abs_diff-length.ensures ∙ ap₂ (λ a b. nat_abs (a -ℤ b)) ts begin ∙ nat_abs-distance c.in-Some.begin.now c.args.ts later in
+    let added : c.from.result ≡ distance c.in-Some.begin.now c.args.ts = c.from.ensures ∙ lasts in
+    let longest : c.max-self-inside.result ≡ max c.self.inside.longest (distance c.in-Some.begin.now c.args.ts) = c.max-self-inside.ensures ∙ ap (max c.self.inside.longest) lasts in
     let fewer : c.pop.new.self.items ≡ take (length c.self.inside.opened.items - 1) c.self.inside.opened.items = search rules in
     let popped : c.pop.new.self.items ≡ without_last c.self.inside.opened.items = fewer ∙ take-without_last c.self.inside.opened.items in
-    rw (popped, lasts) (AreBounded-with_end _ c.in-Some.begin.now c.args.ts c.self.invariant found c.requires.in_time)
+    rw (popped, added, longest) (AreBounded-with_end _ c.in-Some.begin.now c.args.ts c.self.invariant found c.requires.in_time)
 
 pub returns-clause-refusal : goal.returns-clause-refusal
 returns-clause-refusal c =
@@ -48,9 +50,10 @@ returns-clause-ends c =
     let fewer : c.pop.new.self.items ≡ take (length c.self.inside.opened.items - 1) c.self.inside.opened.items = search rules in
     let popped : c.pop.new.self.items ≡ without_last c.self.inside.opened.items = fewer ∙ take-without_last c.self.inside.opened.items in
     let added : c.from.result ≡ distance c.in-Some.begin.now c.args.ts = c.from.ensures ∙ lasts in
+    let longest : c.max-self-inside.result ≡ max c.self.inside.longest (distance c.in-Some.begin.now c.args.ts) = c.max-self-inside.ensures ∙ ap (max c.self.inside.longest) lasts in
     record {
       begin = c.in-Some.begin.now;
       matched = ap (λ (s : AsyncSpans). last_of s.opened) (sym c.self.view_is) ∙ found;
       lasts = lasts;
-      becomes = rw (popped, added) (ap (λ (s : AsyncSpans). with_end s c.in-Some.begin.now c.args.ts) c.self.view_is);
+      becomes = rw (popped, added, longest) (ap (λ (s : AsyncSpans). with_end s c.in-Some.begin.now c.args.ts) c.self.view_is);
     }
