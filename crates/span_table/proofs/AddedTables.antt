@@ -1,10 +1,10 @@
 -- Tables are added, and lose nothing by it.
-use Rattle.std.specs.{List.{cons_option, list_any, Sorted.IsPermutation}, Option.option_map, Prelude.{flat_map, slice_get, sum_by}}
-use Rattle.std.proofs.{Common.{◌≡◌, ℕ, ◌+◌, ◌||◌, List, [], ◌∷◌, ◌++◌, Option, Some, None, map, refl, sym, ap, ap₂, subst, ◌∙◌}, lemmas.{Grind.flat_map-append, List.{map-append, map-id, Sorted.{IsPermutation-map, list_any-IsPermutation, sum_by-IsPermutation}, Sums.{sum_by-append, sum_by-cons}}, Option.slice_get-map, Simd.map-map}}
+use Rattle.std.specs.{List.{cons_option, list_any, Sorted.IsPermutation}, Option.option_map, Prelude.{flat_map, max, nat_lt, slice_get, sum_by}}
+use Rattle.std.proofs.{Common.{◌≡◌, ℕ, ◌+◌, ◌||◌, Bool, true, false, arith, List, [], ◌∷◌, ◌++◌, Option, Some, None, map, refl, sym, ap, ap₂, subst, ◌∙◌}, lemmas.{Grind.flat_map-append, List.{map-append, map-id, Sorted.{IsPermutation-map, list_any-IsPermutation, sum_by-IsPermutation}, Sums.{sum_by-append, sum_by-cons}}, Option.slice_get-map, Simd.map-map}}
 use Rattle.span_self_time.proofs.Mapped.{sum_by-map}
 use Rattle.span_keyed_tracks.proofs.{Keyed.has_key, SameKeys.step_keys}
-use Rattle.span_table.specs.{Thread, AsyncRow, Keyed, keys_in, steps_at, CountRow, accepted, async_rows, thread_keys, Timed, timed_spans, thread_events, closed_spans, parent_of, Adding.{AddingLosesNothing, DroppingAdds, OrderIsNothing, keyed_by, keyed_rows, picked}, Columns.{async_value_at, value_at}, KeyLaws.{key_cmp_total, key_cmp-same}, Keys.{TableKey, key_cmp}, Tables.{KeyedSums, Run, SpanTable, called, counts_of, counts_together, keyed_async, keyed_span, row_of, rows_of, run_sums, sums_of, sums_together, table_of, thread_sums}, declared.{column.Column.Column, counts.TableCounts.TableCounts, of.Of.{Of, TheVariants.{Spans, Async}}, sums.Sums.Sums, table.Row.Row}}
-use Rattle.span_table.proofs.{Alike.{AddUpAlike, AddUpAlike-append, AddUpAlike-flat_map, AddUpAlike-grouped, AddUpAlike-refl, has_key-append, summed-alike}, Tallies.{made_of, sums-same, tally, tally-append, under}}
+use Rattle.span_table.specs.{Thread, AsyncRow, Keyed, keys_in, steps_at, CountRow, accepted, async_rows, thread_keys, Timed, timed_spans, thread_events, closed_spans, parent_of, Adding.{AddingLosesNothing, AreAmong, Choice, DroppingAdds, OrderIsNothing, keyed_by, keyed_rows, picked, schema_by}, Columns.{async_value_at, value_at}, KeyLaws.{key_cmp_total, key_cmp-same}, Keys.{TableKey, key_cmp}, Numbers.set_of, Sums.{no_sums, with_sums}, Tables.{KeyedSums, Run, Schema, SpanTable, called, counts_of, counts_together, keyed_async, keyed_span, row_of, rows_of, run_sums, schema_sums, sums_of, sums_together, table_of, thread_sums, with_only}, declared.{number_set.NumberSet.NumberSet, column.Column.Column, counts.TableCounts.TableCounts, of.Of.{Of, TheVariants.{Spans, Async}}, sums.Sums.Sums, table.Row.Row}}
+use Rattle.span_table.proofs.{Alike.{AddUpAlike, AddUpAlike-append, AddUpAlike-flat_map, AddUpAlike-grouped, AddUpAlike-refl, has_key-append, summed-alike}, Only.{AddUpAlike-only, only-among}, Tallies.{above-max, made_of, nat-same, number-total, same_numbers, tally, tally-append, total, under}}
 
 -- sums that add up alike give the same rows
 pub rows_of-alike : (es fs : KeyedSums) → AddUpAlike es fs → rows_of es ≡ rows_of fs
@@ -18,7 +18,7 @@ flat_map-flat_map : {A B C : Type 0} (f : B → List C) (g : A → List B) (xs :
 flat_map-flat_map f g [] = refl
 flat_map-flat_map f g (x ∷ xs) = flat_map-append f (g x) (flat_map g xs) ∙ ap (λ l. flat_map f (g x) ++ l) (flat_map-flat_map f g xs)
 
-map-flat_map : {A B C : Type 0} (f : B → C) (g : A → List B) (xs : List A) → map f (flat_map g xs) ≡ flat_map (λ x. map f (g x)) xs
+pub map-flat_map : {A B C : Type 0} (f : B → C) (g : A → List B) (xs : List A) → map f (flat_map g xs) ≡ flat_map (λ x. map f (g x)) xs
 map-flat_map f g [] = refl
 map-flat_map f g (x ∷ xs) = map-append f (g x) (flat_map g xs) ∙ ap (λ l. map f (g x) ++ l) (map-flat_map f g xs)
 
@@ -80,17 +80,17 @@ counts-same a b same =
 
 -- the tables of lists of runs, added, are the table of all these runs together
 pub add_tables-table_of : AddingLosesNothing
-add_tables-table_of of columns lists = λ i. record { of = of; columns = columns; counts = all_counts i; rows = rows i }
+add_tables-table_of schema lists = λ i. record { schema = schema; counts = all_counts i; rows = rows i }
   where
-    all_counts : counts_together (map (λ (table : SpanTable). table.counts) (map (table_of of columns) lists)) ≡ counts_together (map counts_of (flat_map (λ list. list) lists))
-    all_counts = ap counts_together (map-map (λ (table : SpanTable). table.counts) (table_of of columns) lists)
+    all_counts : counts_together (map (λ (table : SpanTable). table.counts) (map (table_of schema) lists)) ≡ counts_together (map counts_of (flat_map (λ list. list) lists))
+    all_counts = ap counts_together (map-map (λ (table : SpanTable). table.counts) (table_of schema) lists)
         ∙ counts-same (counts_together (map (λ list. counts_together (map counts_of list)) lists)) (counts_together (map counts_of (flat_map (λ list. list) lists))) (λ f adds. number-lists f adds lists)
 
-    rows : rows_of (flat_map (λ (table : SpanTable). keyed_rows table.rows) (map (table_of of columns) lists)) ≡ rows_of (flat_map (run_sums of columns) (flat_map (λ list. list) lists))
-    rows = ap rows_of (flat_map-map (λ (table : SpanTable). keyed_rows table.rows) (table_of of columns) lists)
-        ∙ rows_of-alike (flat_map (λ list. keyed_rows (rows_of (flat_map (run_sums of columns) list))) lists) (flat_map (λ list. flat_map (run_sums of columns) list) lists)
-        (AddUpAlike-flat_map (λ list. keyed_rows (rows_of (flat_map (run_sums of columns) list))) (λ list. flat_map (run_sums of columns) list) (λ list. rows-back (flat_map (run_sums of columns) list)) lists)
-        ∙ ap rows_of (sym (flat_map-flat_map (run_sums of columns) (λ list. list) lists))
+    rows : rows_of (flat_map (λ (table : SpanTable). keyed_rows table.rows) (map (table_of schema) lists)) ≡ rows_of (flat_map (schema_sums schema) (flat_map (λ list. list) lists))
+    rows = ap rows_of (flat_map-map (λ (table : SpanTable). keyed_rows table.rows) (table_of schema) lists)
+        ∙ rows_of-alike (flat_map (λ list. keyed_rows (rows_of (flat_map (schema_sums schema) list))) lists) (flat_map (λ list. flat_map (schema_sums schema) list) lists)
+        (AddUpAlike-flat_map (λ list. keyed_rows (rows_of (flat_map (schema_sums schema) list))) (λ list. flat_map (schema_sums schema) list) (λ list. rows-back (flat_map (schema_sums schema) list)) lists)
+        ∙ ap rows_of (sym (flat_map-flat_map (schema_sums schema) (λ list. list) lists))
 
 picked-map : {A B : Type 0} (f : A → B) (xs : List A) (ps : List ℕ) → picked ps (map f xs) ≡ map f (picked ps xs)
 picked-map f xs [] = refl
@@ -105,7 +105,7 @@ module _ (places : List ℕ) (columns : List Column) where
   thread_picked run thread =
       let spans = closed_spans (thread_events thread run.journal) in
       map-map (under (picked places)) (keyed_span columns run thread spans) (timed_spans run.journal thread)
-      ∙ (λ i. map (λ (t : Timed). record { key = picked-map (value_at run thread (called t.span) (option_map called (parent_of spans t.span))) columns places i; step = sums_of t }) (timed_spans run.journal thread))
+      ∙ (λ i. map (λ (t : Timed). record { key = picked-map (value_at run thread (called t.span) (option_map called (parent_of spans t.span))) columns places i; step = sums_of spans t }) (timed_spans run.journal thread))
 
   run_picked : (of : Of) (run : Run) → map (under (picked places)) (run_sums of columns run) ≡ run_sums of (picked places columns) run
   run_picked Spans run =
@@ -115,16 +115,54 @@ module _ (places : List ℕ) (columns : List Column) where
       map-map (under (picked places)) (keyed_async columns run) (async_rows run.journal)
       ∙ (λ i. map (λ (row : AsyncRow). record { key = picked-map (async_value_at run row.key) columns places i; step = (keyed_async columns run row).step }) (async_rows run.journal))
 
-  rows-picked : (of : Of) (runs : List Run) → rows_of (map (keyed_by places) (rows_of (flat_map (run_sums of columns) runs))) ≡ rows_of (flat_map (run_sums of (picked places columns)) runs)
-  rows-picked of runs =
-      let sums = flat_map (run_sums of columns) runs in
-      ap rows_of (rows-regrouped (picked places) sums)
-      ∙ rows_of-alike (regrouped (picked places) sums) (map (under (picked places)) sums) (AddUpAlike-grouped key_cmp_total key_cmp-same (picked places) sums)
-      ∙ ap rows_of (map-flat_map (under (picked places)) (run_sums of columns) runs ∙ (λ i. flat_map (λ run. run_picked of run i) runs))
+module _ (choice : Choice) (schema : Schema) (are : AreAmong choice.numbers schema.numbers) where
+  abbrev set : NumberSet
+  set = set_of choice.numbers
 
--- a table by fewer columns is the table by more, with the others dropped
-pub table_of-picked : DroppingAdds
-table_of-picked places of columns runs = λ i. record { of = of; columns = picked places columns; counts = counts_together (map counts_of runs); rows = rows-picked places columns of runs i }
+  abbrev sums_of_runs : List Run → KeyedSums
+  sums_of_runs runs = flat_map (schema_sums schema) runs
+
+  -- a run with what is chosen
+  run-chosen : (run : Run) → map (with_only set) (map (under (picked choice.places)) (schema_sums schema run)) ≡ schema_sums (schema_by choice schema) run
+  run-chosen run = each (run_sums schema.of schema.columns run) ∙ ap (map (with_only set)) (run_picked choice.places schema.columns schema.of run)
+    where
+      each : (es : KeyedSums) → map (with_only set) (map (under (picked choice.places)) (map (with_only (set_of schema.numbers)) es)) ≡ map (with_only set) (map (under (picked choice.places)) es)
+      each [] = refl
+      each (e ∷ es) = ap₂ (λ (s : Sums) (l : KeyedSums). record { key = picked choice.places e.key; step = s } ∷ l) (only-among choice.numbers schema.numbers e.step are) (each es)
+
+  runs-chosen : (runs : List Run) → map (with_only set) (map (under (picked choice.places)) (sums_of_runs runs)) ≡ flat_map (schema_sums (schema_by choice schema)) runs
+  runs-chosen runs =
+      ap (map (with_only set)) (map-flat_map (under (picked choice.places)) (schema_sums schema) runs)
+      ∙ map-flat_map (with_only set) (λ run. map (under (picked choice.places)) (schema_sums schema run)) runs ∙ (λ i. flat_map (λ run. run-chosen run i) runs)
+
+  rows-chosen : (runs : List Run) → rows_of (map (keyed_by choice) (rows_of (sums_of_runs runs))) ≡ rows_of (flat_map (schema_sums (schema_by choice schema)) runs)
+  rows-chosen runs =
+      let es = sums_of_runs runs in
+      let g = picked choice.places in
+      ap rows_of (sym (map-map (with_only set) (λ (row : Row). record { key = g row.key; step = row.sums }) (rows_of es)) ∙ ap (map (with_only set)) (rows-regrouped g es))
+      ∙ rows_of-alike (map (with_only set) (regrouped g es)) (map (with_only set) (map (under g) es)) (AddUpAlike-only set (regrouped g es) (map (under g) es) (AddUpAlike-grouped key_cmp_total key_cmp-same g es))
+      ∙ ap rows_of (runs-chosen runs)
+
+-- a table by fewer columns and numbers is the table by more, with the others dropped
+pub table_of-chosen : DroppingAdds
+table_of-chosen choice schema runs are = λ i. record { schema = schema_by choice schema; counts = counts_together (map counts_of runs); rows = rows-chosen choice schema are runs i }
+
+-- what lists of sums come to is the same in whatever order these come
+total-moved : {A : Type 0} (f : A → Sums) (xs ys : List A) → IsPermutation xs ys → total f xs ≡ total f ys
+total-moved {A = A} f xs ys moved = same_numbers (total f xs) (total f ys)
+    (number (λ s. s.count) (λ a b. refl) refl) (number (λ s. s.total) (λ a b. refl) refl) (number (λ s. s.self_time) (λ a b. refl) refl)
+    (longest-same (λ n. longest-above n xs ∙ list_any-IsPermutation (λ x. nat_lt n (f x).longest) xs ys moved ∙ sym (longest-above n ys)))
+    (number (λ s. s.outer) (λ a b. refl) refl) (number (λ s. s.unclosed) (λ a b. refl) refl) (number (λ s. s.points) (λ a b. refl) refl)
+  where
+    number : (n : Sums → ℕ) → ((a b : Sums) → n (with_sums a b) ≡ n a + n b) → n no_sums ≡ 0 → n (total f xs) ≡ n (total f ys)
+    number n adds none = number-total n adds none f xs ∙ sym (sum_by-IsPermutation (λ x. n (f x)) xs ys moved) ∙ sym (number-total n adds none f ys)
+
+    longest-above : (n : ℕ) (zs : List A) → nat_lt n (total f zs).longest ≡ list_any (λ x. nat_lt n (f x).longest) zs
+    longest-above n [] = grind arith
+    longest-above n (z ∷ zs) = above-max n (f z).longest (total f zs).longest ∙ ap (λ b. nat_lt n (f z).longest || b) (longest-above n zs)
+
+    longest-same : ((n : ℕ) → nat_lt n (total f xs).longest ≡ nat_lt n (total f ys).longest) → (total f xs).longest ≡ (total f ys).longest
+    longest-same same = nat-same (total f xs).longest (total f ys).longest same
 
 -- what adds up over runs is the same in whatever order they come
 module _ (F : Run → KeyedSums) (k : TableKey) where
@@ -134,36 +172,28 @@ module _ (F : Run → KeyedSums) (k : TableKey) where
       ap (has_key key_cmp k) (map-append (λ (e : Keyed TableKey Sums). e.key) (F run) (flat_map F runs)) ∙ has_key-append key_cmp k (step_keys (F run)) (step_keys (flat_map F runs))
       ∙ ap (λ b. has_key key_cmp k (step_keys (F run)) || b) (keys-each runs)
 
-  tally-each : (f : Sums → ℕ) (runs : List Run) → tally key_cmp f k (flat_map F runs) ≡ sum_by (λ run. tally key_cmp f k (F run)) runs
-  tally-each f [] = refl
-  tally-each f (run ∷ runs) =
-      tally-append key_cmp f k (F run) (flat_map F runs) ∙ ap (λ n. tally key_cmp f k (F run) + n) (tally-each f runs)
-      ∙ sym (sum_by-cons (λ run. tally key_cmp f k (F run)) run runs)
+  tally-each : (runs : List Run) → tally key_cmp k (flat_map F runs) ≡ total (λ run. tally key_cmp k (F run)) runs
+  tally-each [] = refl
+  tally-each (run ∷ runs) = tally-append key_cmp k (F run) (flat_map F runs) ∙ ap (with_sums (tally key_cmp k (F run))) (tally-each runs)
 
   module _ (runs other : List Run) (moved : IsPermutation runs other) where
     keys-moved : has_key key_cmp k (step_keys (flat_map F runs)) ≡ has_key key_cmp k (step_keys (flat_map F other))
     keys-moved = keys-each runs ∙ list_any-IsPermutation (λ run. has_key key_cmp k (step_keys (F run))) runs other moved ∙ sym (keys-each other)
 
-    tally-moved : (f : Sums → ℕ) → tally key_cmp f k (flat_map F runs) ≡ tally key_cmp f k (flat_map F other)
-    tally-moved f = tally-each f runs ∙ sym (sum_by-IsPermutation (λ run. tally key_cmp f k (F run)) runs other moved) ∙ sym (tally-each f other)
-
-    sums-moved : sums_together (steps_at key_cmp k (flat_map F runs)) ≡ sums_together (steps_at key_cmp k (flat_map F other))
-    sums-moved =
-        let mine = steps_at key_cmp k (flat_map F runs) in
-        let its = steps_at key_cmp k (flat_map F other) in
-        sums-same (sums_together mine) (sums_together its) (λ f is. is.together mine ∙ tally-moved f ∙ sym (is.together its))
+    sums-moved : tally key_cmp k (flat_map F runs) ≡ tally key_cmp k (flat_map F other)
+    sums-moved = tally-each runs ∙ total-moved (λ run. tally key_cmp k (F run)) runs other moved ∙ sym (tally-each other)
 
 -- a table is the same for runs in whatever order
 pub table_of-moved : OrderIsNothing
-table_of-moved of columns runs other moved = λ i. record { of = of; columns = columns; counts = all_counts i; rows = rows i }
+table_of-moved schema runs other moved = λ i. record { schema = schema; counts = all_counts i; rows = rows i }
   where
     all_counts : counts_together (map counts_of runs) ≡ counts_together (map counts_of other)
     all_counts = counts-same (counts_together (map counts_of runs)) (counts_together (map counts_of other))
         (λ f adds. adds (map counts_of runs) ∙ sym (sum_by-IsPermutation f (map counts_of runs) (map counts_of other) (IsPermutation-map counts_of runs other moved)) ∙ sym (adds (map counts_of other)))
 
-    rows : rows_of (flat_map (run_sums of columns) runs) ≡ rows_of (flat_map (run_sums of columns) other)
-    rows = rows_of-alike (flat_map (run_sums of columns) runs) (flat_map (run_sums of columns) other) (record {
-      there = λ k h. sym (keys-moved (run_sums of columns) k runs other moved) ∙ h;
-      back = λ k h. keys-moved (run_sums of columns) k runs other moved ∙ h;
-      sums = λ k. sums-moved (run_sums of columns) k runs other moved;
+    rows : rows_of (flat_map (schema_sums schema) runs) ≡ rows_of (flat_map (schema_sums schema) other)
+    rows = rows_of-alike (flat_map (schema_sums schema) runs) (flat_map (schema_sums schema) other) (record {
+      there = λ k h. sym (keys-moved (schema_sums schema) k runs other moved) ∙ h;
+      back = λ k h. keys-moved (schema_sums schema) k runs other moved ∙ h;
+      sums = λ k. sums-moved (schema_sums schema) k runs other moved;
     })

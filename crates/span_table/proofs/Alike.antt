@@ -1,10 +1,10 @@
 -- Sums under keys that add up alike are kept alike.
 use Rattle.std.specs.{BTreeSet.insert_key, Cmp.{IsTotalOrder, eq_by_cmp_equiv, tied_itself}, List.{AllByRecursion, Contains, Sorted.IsStrictlySortedBy}, Ordering.{eq_by_cmp, is_eq}, Prelude.{flat_map, fold}, declared.cmp.Ordering.{Ordering, TheVariants.Equal}}
-use Rattle.std.proofs.{Common.{◌≡◌, ℕ, ◌+◌, Bool, true, false, ◌||◌, List, [], ◌∷◌, ◌++◌, map, refl, sym, ap, ap₂, ◌∙◌}, lemmas.{List.map-append, Map.Views.list_any-from_Contains}}
+use Rattle.std.proofs.{Common.{◌≡◌, Bool, true, false, ◌||◌, List, [], ◌∷◌, ◌++◌, map, refl, sym, ap, ap₂, ◌∙◌}, lemmas.{List.map-append, Map.Views.list_any-from_Contains}}
 use Rattle.indexmap.proofs.CallerLemmas.{Contains-list_any}
 use Rattle.span_keyed_tracks.proofs.{KeyOrder.has_key-insert_key, Keyed.{has_key, same_from_is_eq}, SameKeys.{ascending-members, step_keys}, Sorted.{AllByRecursion-map, ascending-sorted}}
-use Rattle.span_table.specs.{Keyed, ascending, entry_of, keys_in, steps_at, Collected.with_sums, KeyLaws.{key_cmp_total, key_cmp-same}, Keys.{TableKey, key_cmp}, Tables.{KeyedSums, summed, sums_together}, declared.sums.Sums.Sums}
-use Rattle.span_table.proofs.Tallies.{made_of, sums-same, tally, tally-append, tally-made, under}
+use Rattle.span_table.specs.{Keyed, ascending, entry_of, keys_in, steps_at, KeyLaws.{key_cmp_total, key_cmp-same}, Keys.{TableKey, key_cmp}, Sums.with_sums, Tables.{KeyedSums, summed, sums_together}, declared.sums.Sums.Sums}
+use Rattle.span_table.proofs.Tallies.{made_of, tally-append, tally-made, under}
 
 either : (a b : Bool) → b ≡ true → (a || b) ≡ true
 either true b h = refl
@@ -53,11 +53,7 @@ step_keys-append k es fs = ap (has_key key_cmp k) (map-append (λ (e : Keyed Tab
 
 -- the sums of a key among two lists
 pub sums_at-append : (k : TableKey) (es fs : KeyedSums) → sums_together (steps_at key_cmp k (es ++ fs)) ≡ with_sums (sums_together (steps_at key_cmp k es)) (sums_together (steps_at key_cmp k fs))
-sums_at-append k es fs =
-    let one = steps_at key_cmp k es in
-    let other = steps_at key_cmp k fs in
-    sums-same (sums_together (steps_at key_cmp k (es ++ fs))) (with_sums (sums_together one) (sums_together other))
-    (λ f is. is.together (steps_at key_cmp k (es ++ fs)) ∙ tally-append key_cmp f k es fs ∙ sym (is.both (sums_together one) (sums_together other) ∙ ap₂ (λ m n. m + n) (is.together one) (is.together other)))
+sums_at-append k es fs = tally-append key_cmp k es fs
 
 Within-append : (es fs es' fs' : KeyedSums) → Within key_cmp (step_keys es) (step_keys es') → Within key_cmp (step_keys fs) (step_keys fs') → Within key_cmp (step_keys (es ++ fs)) (step_keys (es' ++ fs'))
 Within-append es fs es' fs' first second k h =
@@ -149,15 +145,9 @@ module _ {K : Type 0} {cmp : K → K → Ordering} (o : IsTotalOrder cmp) (same 
         AllByRecursion-map (λ (e : Keyed K Sums). has_key cmp e.key (step_keys es) ≡ true) (λ (e : Keyed K Sums). has_key cmp e.key (keys_in cmp es) ≡ true)
         (λ (e : Keyed K Sums) h. has_key-ascending e.key (step_keys es) ∙ h) es (own_keys es)
 
-    one_sum : (f : Sums → ℕ) → ((k : K) → f (put_together k) ≡ tally cmp f k es) → (j : TableKey) → tally key_cmp f j grouped ≡ tally key_cmp f j (map (under g) es)
-    one_sum f gives j = tally-made o same key_cmp g f put_together j es (keys_in cmp es) sorted known gives
-
     pub AddUpAlike-grouped : AddUpAlike grouped (map (under g) es)
     AddUpAlike-grouped = record {
       there = λ j h. ap (has_key key_cmp j) (keys_under es) ∙ Within-map (keys_in cmp es) (step_keys es) (λ k has. sym (has_key-ascending k (step_keys es)) ∙ has) j (sym (ap (has_key key_cmp j) (keys_grouped (keys_in cmp es))) ∙ h);
       back = λ j h. ap (has_key key_cmp j) (keys_grouped (keys_in cmp es)) ∙ Within-map (step_keys es) (keys_in cmp es) (λ k has. has_key-ascending k (step_keys es) ∙ has) j (sym (ap (has_key key_cmp j) (keys_under es)) ∙ h);
-      sums = λ j.
-          let mine = steps_at key_cmp j grouped in
-          let its = steps_at key_cmp j (map (under g) es) in
-          sums-same (sums_together mine) (sums_together its) (λ f is. is.together mine ∙ one_sum f (λ k. is.together (steps_at cmp k es)) j ∙ sym (is.together its));
+      sums = λ j. tally-made o same key_cmp g j es (keys_in cmp es) sorted known;
     }

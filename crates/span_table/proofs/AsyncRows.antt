@@ -1,12 +1,12 @@
 -- By category, scope, id and name a table has the asynchronous rows of its run, if their texts distinguish them; by whatever columns it
 -- has in all what these have.
 use Rattle.std.specs.{Cmp.tied_itself, List.{AllByRecursion, IsDistinct, Sorted.IsPermutation}, Ordering.{eq_by_cmp, is_eq}, Prelude.{filter, sum_by}}
-use Rattle.std.proofs.{Common.{◌≡◌, ℕ, Bool, false, cond, List, [], ◌∷◌, ◌++◌, map, refl, sym, ap, ap₂, subst, ◌∙◌}, lemmas.List.{append-nil, Sorted.IsPermutation-map}}
+use Rattle.std.proofs.{Common.{◌≡◌, ℕ, ◌+◌, Bool, false, cond, List, [], ◌∷◌, ◌++◌, map, refl, sym, ap, ap₂, subst, ◌∙◌}, lemmas.List.{append-nil, Sorted.IsPermutation-map}}
 use Rattle.span_self_time.proofs.Mapped.{sum_by-map}
 use Rattle.span_keyed_tracks.proofs.{InKeyOrder.AreApart-distinct, Keyed.{has_key, neither}, SameKeys.step_keys, Sorting.ascending-permutation, Uses.{AreApart, is_eq-turned}}
 use Rattle.span_journal.proofs.Sorted.{map-map}
-use Rattle.span_table.specs.{AsyncRow, Keyed, ascending, entry_of, steps_at, async_rows, KeyLaws.{key_cmp_total, key_cmp-same}, Keys.{TableKey, key_cmp}, Laws.{RowsAddUpToAsync, RowsAreAsyncRows, async_columns, of_async_row}, Tables.{KeyedSums, async_sums, keyed_async, row_of, rows_of, sums_of_async, sums_together, table_of}, declared.{of.Of.TheVariants.Async, sums.Sums.Sums, table.Row.Row}}
-use Rattle.span_table.proofs.{AddedTables.{regrouped, rows-regrouped}, Alike.AddUpAlike-grouped, Searched.sums_together-one, Tallies.under}
+use Rattle.span_table.specs.{AsyncRow, Keyed, ascending, entry_of, steps_at, async_rows, KeyLaws.{key_cmp_total, key_cmp-same}, Keys.{TableKey, key_cmp}, Laws.{RowsAddUpToAsync, RowsAreAsyncRows, async_columns, of_async_row}, Numbers.{only_in, set_of, usual_numbers}, Sums.{no_sums, with_sums}, Tables.{KeyedSums, async_sums, keyed_async, row_of, rows_of, sums_of_async, sums_together, table_of, usual_schema, with_only}, declared.{audience.Audience.TheVariants.Programs, number_set.NumberSet.NumberSet, of.Of.TheVariants.Async, sums.Sums.Sums, table.Row.Row}}
+use Rattle.span_table.proofs.{AddedTables.{regrouped, rows-regrouped}, Alike.AddUpAlike-grouped, Tallies.{number-total, sums_together-one, under}}
 
 abbrev Entry : Type 0
 Entry = Keyed TableKey Sums
@@ -61,10 +61,11 @@ module _ (es : KeyedSums) where
 pub rows-are_async_rows : RowsAreAsyncRows
 rows-are_async_rows run distinguished =
     let rows = async_rows run.journal in
-    let sums = async_sums async_columns run in
-    let make = keyed_async async_columns run in
+    let set = set_of (usual_numbers Programs Async) in
+    let make : AsyncRow → Entry = λ row. record { key = (of_async_row row).key; step = sums_of_async row 0 } in
+    let sums = map make rows in
     let distinct = subst (IsDistinct (eq_by_cmp key_cmp)) (sym (map-map (λ (e : Entry). e.key) make rows)) distinguished in
-    subst (IsPermutation (map of_async_row rows)) (ap rows_of (sym (append-nil sums)))
+    subst (IsPermutation (map of_async_row rows)) (ap rows_of (sym (append-nil (map (with_only set) (async_sums async_columns run)) ∙ map-map (with_only set) (keyed_async async_columns run) rows)))
     (subst (λ l. IsPermutation l (rows_of sums)) (map-map (own sums) make rows) (rows_of-distinct sums distinct))
 
 -- under the key of no columns stand all
@@ -73,28 +74,31 @@ steps-all h [] = refl
 steps-all h (x ∷ xs) = ap (λ l. h x ∷ l) (steps-all h xs)
 
 -- what rows have of a number is what the sums have
-rows-total : (f : Sums → ℕ) → ((sums : List Sums) → f (sums_together sums) ≡ sum_by f sums) → (es : KeyedSums) → sum_by (λ (row : Row). f row.sums) (rows_of es) ≡ sum_by (λ (e : Entry). f e.step) es
-rows-total f adds es =
+rows-total : (n : Sums → ℕ) → ((a b : Sums) → n (with_sums a b) ≡ n a + n b) → n no_sums ≡ 0 → (es : KeyedSums) → sum_by (λ (row : Row). n row.sums) (rows_of es) ≡ sum_by (λ (e : Entry). n e.step) es
+rows-total n adds zero es =
     let none : TableKey → TableKey = λ k. [] in
     let alike = AddUpAlike-grouped key_cmp_total key_cmp-same none es in
-    sym (sum_by-map f (λ (row : Row). row.sums) (rows_of es))
-    ∙ ap (sum_by f) (sym (steps-all (λ (row : Row). row.sums) (rows_of es)))
-    ∙ ap (λ (l : KeyedSums). sum_by f (steps_at key_cmp [] l)) (rows-regrouped none es)
-    ∙ sym (adds (steps_at key_cmp [] (regrouped none es))) ∙ ap f (alike.sums []) ∙ adds (steps_at key_cmp [] (map (under none) es))
-    ∙ ap (sum_by f) (steps-all (λ (e : Entry). e.step) es) ∙ sum_by-map f (λ (e : Entry). e.step) es
+    sym (number-total n adds zero (λ (row : Row). row.sums) (rows_of es))
+    ∙ ap (λ l. n (sums_together l)) (sym (steps-all (λ (row : Row). row.sums) (rows_of es)))
+    ∙ ap (λ (l : KeyedSums). n (sums_together (steps_at key_cmp [] l))) (rows-regrouped none es)
+    ∙ ap n (alike.sums [])
+    ∙ ap (λ l. n (sums_together l)) (steps-all (λ (e : Entry). e.step) es) ∙ number-total n adds zero (λ (e : Entry). e.step) es
 
 -- by whatever columns, the rows have in all what the asynchronous rows have
 pub rows-add_up : RowsAddUpToAsync
 rows-add_up columns run = record {
-  closed = number (λ (s : Sums). s.count) (λ sums. refl);
-  total = number (λ (s : Sums). s.total) (λ sums. refl);
-  unclosed = number (λ (s : Sums). s.unclosed) (λ sums. refl);
-  points = number (λ (s : Sums). s.points) (λ sums. refl);
+  closed = number (λ (s : Sums). s.count) (λ a b. refl) refl (λ s. refl);
+  total = number (λ (s : Sums). s.total) (λ a b. refl) refl (λ s. refl);
+  unclosed = number (λ (s : Sums). s.unclosed) (λ a b. refl) refl (λ s. refl);
+  points = number (λ (s : Sums). s.points) (λ a b. refl) refl (λ s. refl);
 }
   where
-    number : (f : Sums → ℕ) → ((sums : List Sums) → f (sums_together sums) ≡ sum_by f sums) →
-        sum_by (λ (row : Row). f row.sums) (table_of Async columns (run ∷ [])).rows ≡ sum_by (λ (row : AsyncRow). f (sums_of_async row)) (async_rows run.journal)
-    number f adds =
-        let sums = async_sums columns run in
-        rows-total f adds (sums ++ []) ∙ ap (sum_by (λ (e : Entry). f e.step)) (append-nil sums)
-        ∙ sum_by-map (λ (e : Entry). f e.step) (keyed_async columns run) (async_rows run.journal)
+    set : NumberSet
+    set = set_of (usual_numbers Programs Async)
+
+    number : (n : Sums → ℕ) → ((a b : Sums) → n (with_sums a b) ≡ n a + n b) → n no_sums ≡ 0 → ((s : Sums) → n (only_in set s) ≡ n s) →
+        sum_by (λ (row : Row). n row.sums) (table_of (usual_schema Async columns) (run ∷ [])).rows ≡ sum_by (λ (row : AsyncRow). n (sums_of_async row 0)) (async_rows run.journal)
+    number n adds none kept =
+        let sums = map (with_only set) (async_sums columns run) in
+        rows-total n adds none (sums ++ []) ∙ ap (sum_by (λ (e : Entry). n e.step)) (append-nil sums ∙ map-map (with_only set) (keyed_async columns run) (async_rows run.journal))
+        ∙ sum_by-map (λ (e : Entry). n e.step) (λ row. with_only set (keyed_async columns run row)) (async_rows run.journal)

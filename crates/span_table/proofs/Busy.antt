@@ -5,8 +5,8 @@ use Rattle.span_event.proofs.Orders.{thread_cmp-same, thread_cmp-total}
 use Rattle.span_self_time.proofs.{Mapped.{filter-map, sum_by-map}, SelfTimes.sum_by-self_time}
 use Rattle.span_keyed_tracks.proofs.{Keyed.{has_key, neither, same_from_is_eq}, Sorted.ascending-sorted, Uses.is_eq-turned}
 use Rattle.span_journal.proofs.LegalSpans.{legal-spans}
-use Rattle.span_table.specs.{Thread, thread_cmp, Bytes, steps_at, SpanRow, accepted, span_row, span_rows, thread_keys, thread_span_rows, Timed, timed_in, timed_spans, listed_by, thread_events, AreSpans, Span, busy_time, closed_spans, Collected.{keyed_span_row, sums_of_row}, Columns.Run, Keys.key_cmp, Laws.{AddUpToBusy, RowsAddUpToBusy, of_span_row, rows_of_thread, thread_key}, Tables.{keyed_span, sums_of}, declared.{sums.Sums.Sums, table.Row.Row}}
-use Rattle.span_table.proofs.{ByName.thread-alike, OwnRows.rows-are_span_rows, Unlisted.closed_spans-unlisted}
+use Rattle.span_table.specs.{Thread, thread_cmp, Bytes, steps_at, SpanRow, accepted, span_row, span_rows, thread_keys, thread_span_rows, Timed, timed_in, timed_spans, listed_by, thread_events, AreSpans, Span, busy_time, closed_spans, Collected.{keyed_span_row, plain_sums, sums_of_row}, Columns.Run, Keys.key_cmp, Laws.{AddUpToBusy, RowsAddUpToBusy, of_span_row, rows_of_thread, thread_key}, Tables.{keyed_span, sums_of, sums_together}, declared.{sums.Sums.Sums, table.Row.Row}}
+use Rattle.span_table.proofs.{ByName.{thread-alike, without_outer}, OwnRows.rows-are_span_rows, Tallies.number-total, Unlisted.closed_spans-unlisted}
 
 -- the keys of threads are in the order of these
 key_cmp-thread_cmp : (a b : Thread) → key_cmp (thread_key a) (thread_key b) ≡ thread_cmp a b
@@ -74,18 +74,19 @@ module _ (run : Run) (thread : Thread) where
   steps-rows [] = refl
   steps-rows (row ∷ rows) = ap (λ l. sums_of_row row ∷ l) (steps-rows rows)
 
-  steps-spans : (spans : List (Span Bytes)) (timed : List Timed) → steps_at key_cmp [] (map (keyed_span [] run thread spans) timed) ≡ map sums_of timed
+  steps-spans : (spans : List (Span Bytes)) (timed : List Timed) → steps_at key_cmp [] (map without_outer (map (keyed_span [] run thread spans) timed)) ≡ map (λ t. plain_sums (sums_of spans t)) timed
   steps-spans spans [] = refl
-  steps-spans spans (t ∷ timed) = ap (λ l. sums_of t ∷ l) (steps-spans spans timed)
+  steps-spans spans (t ∷ timed) = ap (λ l. plain_sums (sums_of spans t) ∷ l) (steps-spans spans timed)
 
   -- the self times of a thread's rows are those of its spans
   self_times-rows : AreSpans (closed_spans (thread_events thread run.journal)) → sum_by (λ (row : SpanRow). row.self_time) (rows_of thread) ≡ busy_time (closed_spans (thread_events thread run.journal))
   self_times-rows are =
       let spans = closed_spans (thread_events thread run.journal) in
-      let of_sums = λ (s : Sums). s.self_time in
-      sym (ap (sum_by of_sums) (steps-rows (rows_of thread)) ∙ sum_by-map of_sums sums_of_row (rows_of thread))
-      ∙ ap (λ (s : Sums). s.self_time) ((thread-alike [] run refl thread).sums [])
-      ∙ ap (sum_by of_sums) (steps-spans spans (timed_spans run.journal thread)) ∙ sum_by-map of_sums sums_of (timed_spans run.journal thread)
+      let self_of = λ (s : Sums). s.self_time in
+      let plain = λ (t : Timed). plain_sums (sums_of spans t) in
+      sym (ap (λ l. (sums_together l).self_time) (steps-rows (rows_of thread)) ∙ number-total self_of (λ a b. refl) refl sums_of_row (rows_of thread))
+      ∙ ap self_of ((thread-alike [] run refl thread).sums [])
+      ∙ ap (λ l. (sums_together l).self_time) (steps-spans spans (timed_spans run.journal thread)) ∙ number-total self_of (λ a b. refl) refl plain (timed_spans run.journal thread)
       ∙ sum_by-map (λ (t : Timed). t.self_time) (timed_in spans) spans ∙ sum_by-self_time spans are
 
 -- where the closed spans of a thread are spans, the self times of its rows add up to its busy time

@@ -3,8 +3,8 @@ use Rattle.std.specs.{Cmp.Lexicographic.{nat_list_cmp_total, texts_ties}, List.l
 use Rattle.std.proofs.{Common.{◌≡◌, ℕ, ◌+◌, Bool, true, false, ◌||◌, cond, List, [], ◌∷◌, ◌++◌, length, map, Option, None, refl, sym, ap, ap₂, subst, ◌∙◌, arith}, lemmas.List.{map-append, Sums.sum_by-cons}}
 use Rattle.span_event.proofs.Orders.{text_same}
 use Rattle.span_journal.proofs.Sorted.{map-map}
-use Rattle.span_table.specs.{Thread, Bytes, same_text, text_cmp, Keyed, ascending, keys_in, steps_at, accepted, span_row, thread_keys, thread_span_rows, timed_in, thread_events, Span, named, closed_spans, parent_of, Collected.{asks_spans, keyed_span_row, named_alone, row_sums, sums_of_row}, Columns.{Called, Run, Value, value_at}, Keys.TableKey, Tables.{KeyedSums, called, keyed_span, span_sums, summed, sums_of, sums_together, thread_sums}, declared.{column.Column.{Column, TheVariants.{Pid, Tid, Process, Thread as OfThread, Name, File, Cat, Scope, Id, Argument, ParentName, ParentArgument}}, sums.Sums.Sums}}
-use Rattle.span_table.proofs.{Alike.{AddUpAlike, AddUpAlike-flat_map, AddUpAlike-grouped, summed-alike}, Tallies.{made_of, under}}
+use Rattle.span_table.specs.{Thread, Bytes, same_text, text_cmp, Keyed, ascending, keys_in, steps_at, accepted, span_row, thread_keys, thread_span_rows, timed_in, thread_events, Span, named, closed_spans, parent_of, Collected.{asks_spans, keyed_span_row, named_alone, plain_sums, row_sums, sums_of_row}, Columns.{Called, Run, Value, value_at}, Keys.TableKey, Sums.{no_sums, with_sums}, Tables.{KeyedSums, called, keyed_span, span_sums, sums_of, sums_together, thread_sums, with_only}, declared.{number_set.NumberSet.NumberSet, column.Column.{Column, TheVariants.{Pid, Tid, Process, Thread as OfThread, Name, File, Cat, Scope, Id, Argument, ParentName, ParentArgument}}, sums.Sums.Sums}}
+use Rattle.span_table.proofs.{Alike.{AddUpAlike, AddUpAlike-flat_map, AddUpAlike-grouped}, Only.{AddUpAlike-only, only_in-plain}, Tallies.{made_of, number-total, same_numbers, under}}
 
 -- a column that asks a span for no more than its name has the value that one has of which nothing else is known
 value_at-named_alone : (run : Run) (thread : Thread) (span : Called) (parent : Option Called) (column : Column) → asks_spans column ≡ false → value_at run thread span parent column ≡ value_at run thread (named_alone span.name) None column
@@ -31,10 +31,6 @@ key-named_alone run thread span parent (column ∷ columns) h =
     both_false true b h = cc
     both_false false b h = (refl, h)
 
-sum_by-map : {A B : Type 0} (f : B → ℕ) (g : A → B) (xs : List A) → sum_by f (map g xs) ≡ sum_by (λ x. f (g x)) xs
-sum_by-map f g [] = refl
-sum_by-map f g (x ∷ xs) = sum_by-cons f (g x) (map g xs) ∙ ap (λ n. f (g x) + n) (sum_by-map f g xs) ∙ sym (sum_by-cons (λ x. f (g x)) x xs)
-
 sum_by-none : {A : Type 0} (xs : List A) → sum_by (λ x. 0) xs ≡ 0
 sum_by-none [] = refl
 sum_by-none (x ∷ xs) = omega (arith, sum_by-cons (λ x. 0) x xs, sum_by-none xs)
@@ -44,42 +40,45 @@ sum_by-one [] = refl
 sum_by-one (x ∷ xs) = omega (arith, sum_by-cons (λ x. 1) x xs, sum_by-one xs)
 
 module _ (spans : List (Span Bytes)) where
-  -- a span of these, with its self time, under its name
-  abbrev of_span : Span Bytes → Keyed Bytes Sums
-  of_span s = record { key = s.name; step = sums_of (timed_in spans s) }
+  -- the numbers of a span of these without those that only spans tell
+  abbrev plain_of : Span Bytes → Sums
+  plain_of s = plain_sums (sums_of spans (timed_in spans s))
 
-  steps-named : (name : Bytes) (xs : List (Span Bytes)) → steps_at text_cmp name (map of_span xs) ≡ map (λ s. sums_of (timed_in spans s)) (named same_text name xs)
+  -- a span of these under its name
+  abbrev of_span : Span Bytes → Keyed Bytes Sums
+  of_span s = record { key = s.name; step = plain_of s }
+
+  steps-named : (name : Bytes) (xs : List (Span Bytes)) → steps_at text_cmp name (map of_span xs) ≡ map plain_of (named same_text name xs)
   steps-named name [] = refl
   steps-named name (s ∷ xs) =
       ap (λ b. map (λ (e : Keyed Bytes Sums). e.step) (cond b (of_span s ∷ filter (λ e. is_eq (text_cmp e.key name)) (map of_span xs)) (filter (λ e. is_eq (text_cmp e.key name)) (map of_span xs)))) (sym (texts_ties s.name name))
       ∙ by (same_text s.name name) (steps-named name xs)
     where
-      by : (b : Bool) → steps_at text_cmp name (map of_span xs) ≡ map (λ s. sums_of (timed_in spans s)) (named same_text name xs) →
+      by : (b : Bool) → steps_at text_cmp name (map of_span xs) ≡ map plain_of (named same_text name xs) →
           map (λ (e : Keyed Bytes Sums). e.step) (cond b (of_span s ∷ filter (λ e. is_eq (text_cmp e.key name)) (map of_span xs)) (filter (λ e. is_eq (text_cmp e.key name)) (map of_span xs)))
-          ≡ map (λ s. sums_of (timed_in spans s)) (cond b (s ∷ named same_text name xs) (named same_text name xs))
-      by true rest = ap (λ l. sums_of (timed_in spans s) ∷ l) rest
+          ≡ map plain_of (cond b (s ∷ named same_text name xs) (named same_text name xs))
+      by true rest = ap (λ l. plain_of s ∷ l) rest
       by false rest = rest
 
   -- the row of a name has the sums of its spans
   row-sums : (thread : Thread) (name : Bytes) → sums_of_row (span_row thread spans name) ≡ sums_together (steps_at text_cmp name (map of_span spans))
   row-sums thread name =
-      let count = one (λ (s : Sums). s.count) in
-      let total = one (λ (s : Sums). s.total) in
-      let self = one (λ (s : Sums). s.self_time) in
-      let unclosed = one (λ (s : Sums). s.unclosed) in
-      let points = one (λ (s : Sums). s.points) in
-      let number = sum_by-one (named same_text name spans) in
-      let none = sum_by-none (named same_text name spans) in
-      λ i. record {
-        count = (sym number ∙ sym count) i;
-        total = sym total i;
-        self_time = sym self i;
-        unclosed = (sym none ∙ sym unclosed) i;
-        points = (sym none ∙ sym points) i;
-      }
+      let mine = named same_text name spans in
+      same_numbers (sums_of_row (span_row thread spans name)) (sums_together (steps_at text_cmp name (map of_span spans)))
+      (sym (sum_by-one mine) ∙ number (λ s. s.count) (λ a b. refl) refl) (number (λ s. s.total) (λ a b. refl) refl) (number (λ s. s.self_time) (λ a b. refl) refl)
+      (sym (ap (λ l. (sums_together l).longest) (steps-named name spans) ∙ no_longest mine)) (sym (sum_by-none mine) ∙ number (λ s. s.outer) (λ a b. refl) refl)
+      (sym (sum_by-none mine) ∙ number (λ s. s.unclosed) (λ a b. refl) refl) (sym (sum_by-none mine) ∙ number (λ s. s.points) (λ a b. refl) refl)
     where
-      one : (f : Sums → ℕ) → sum_by f (steps_at text_cmp name (map of_span spans)) ≡ sum_by (λ s. f (sums_of (timed_in spans s))) (named same_text name spans)
-      one f = ap (sum_by f) (steps-named name spans) ∙ sum_by-map f (λ s. sums_of (timed_in spans s)) (named same_text name spans)
+      number : (n : Sums → ℕ) → ((a b : Sums) → n (with_sums a b) ≡ n a + n b) → n no_sums ≡ 0 → sum_by (λ s. n (plain_of s)) (named same_text name spans) ≡ n (sums_together (steps_at text_cmp name (map of_span spans)))
+      number n adds none = sym (ap (λ l. n (sums_together l)) (steps-named name spans) ∙ number-total n adds none plain_of (named same_text name spans))
+
+      no_longest : (xs : List (Span Bytes)) → (sums_together (map plain_of xs)).longest ≡ 0
+      no_longest [] = refl
+      no_longest (x ∷ xs) = omega (arith, no_longest xs)
+
+-- without the numbers that only spans tell
+abbrev pub without_outer : Keyed TableKey Sums → Keyed TableKey Sums
+without_outer e = record { key = e.key; step = plain_sums e.step }
 
 module _ (columns : List Column) (run : Run) (asks_none : list_any asks_spans columns ≡ false) where
   module _ (thread : Thread) where
@@ -100,15 +99,15 @@ module _ (columns : List Column) (run : Run) (asks_none : list_any asks_spans co
     names-are : ascending text_cmp (map (λ (s : Span Bytes). s.name) spans) ≡ keys_in text_cmp (map (of_span spans) spans)
     names-are = ap (ascending text_cmp) (sym (map-map (λ (e : Keyed Bytes Sums). e.key) (of_span spans) spans))
 
-    spans-under : (xs : List (Span Bytes)) → map (under name_key) (map (of_span spans) xs) ≡ map (keyed_span columns run thread spans) (map (timed_in spans) xs)
+    spans-under : (xs : List (Span Bytes)) → map (under name_key) (map (of_span spans) xs) ≡ map without_outer (map (keyed_span columns run thread spans) (map (timed_in spans) xs))
     spans-under [] = refl
     spans-under (s ∷ xs) =
-        ap₂ (λ (k : TableKey) (l : KeyedSums). record { key = k; step = sums_of (timed_in spans s) } ∷ l) (sym (key-named_alone run thread (called s) (option_map called (parent_of spans s)) columns asks_none)) (spans-under xs)
+        ap₂ (λ (k : TableKey) (l : KeyedSums). record { key = k; step = plain_of spans s } ∷ l) (sym (key-named_alone run thread (called s) (option_map called (parent_of spans s)) columns asks_none)) (spans-under xs)
 
-    -- the rows of a thread's names add up as its spans do
-    pub thread-alike : AddUpAlike (map (keyed_span_row columns run) (thread_span_rows run.journal thread)) (thread_sums columns run thread)
+    -- the rows of a thread's names add up as its spans do, but for what only these tell
+    pub thread-alike : AddUpAlike (map (keyed_span_row columns run) (thread_span_rows run.journal thread)) (map without_outer (thread_sums columns run thread))
     thread-alike =
-        subst (λ (l : KeyedSums). AddUpAlike l (thread_sums columns run thread)) (sym (rows-made (ascending text_cmp (map (λ (s : Span Bytes). s.name) spans)) ∙ ap (λ names. map (under name_key) (map (made_of of_name) names)) names-are))
+        subst (λ (l : KeyedSums). AddUpAlike l (map without_outer (thread_sums columns run thread))) (sym (rows-made (ascending text_cmp (map (λ (s : Span Bytes). s.name) spans)) ∙ ap (λ names. map (under name_key) (map (made_of of_name) names)) names-are))
         (subst (AddUpAlike (map (under name_key) (map (made_of of_name) (keys_in text_cmp (map (of_span spans) spans))))) (spans-under spans)
         (AddUpAlike-grouped nat_list_cmp_total text_same name_key (map (of_span spans) spans)))
 
@@ -118,13 +117,23 @@ module _ (columns : List Column) (run : Run) (asks_none : list_any asks_spans co
       map-append (keyed_span_row columns run) (thread_span_rows run.journal t) (flat_map (thread_span_rows run.journal) threads)
       ∙ ap (λ l. map (keyed_span_row columns run) (thread_span_rows run.journal t) ++ l) (rows-by_thread threads)
 
-  -- the rows of names add up as their spans do
-  pub row_sums-alike : AddUpAlike (row_sums columns run) (span_sums columns run)
+  spans-by_thread : (threads : List Thread) → map without_outer (flat_map (thread_sums columns run) threads) ≡ flat_map (λ thread. map without_outer (thread_sums columns run thread)) threads
+  spans-by_thread [] = refl
+  spans-by_thread (t ∷ threads) = map-append without_outer (thread_sums columns run t) (flat_map (thread_sums columns run) threads) ∙ ap (λ l. map without_outer (thread_sums columns run t) ++ l) (spans-by_thread threads)
+
+  -- the rows of names add up as their spans do, but for what only these tell
+  row_sums-alike : AddUpAlike (row_sums columns run) (map without_outer (span_sums columns run))
   row_sums-alike =
       let threads = thread_keys (accepted run.journal) in
-      subst (λ (es : KeyedSums). AddUpAlike es (span_sums columns run)) (sym (rows-by_thread threads))
-      (AddUpAlike-flat_map (λ thread. map (keyed_span_row columns run) (thread_span_rows run.journal thread)) (thread_sums columns run) thread-alike threads)
+      subst (AddUpAlike (row_sums columns run)) (sym (spans-by_thread threads))
+      (subst (λ (es : KeyedSums). AddUpAlike es (flat_map (λ thread. map without_outer (thread_sums columns run thread)) threads)) (sym (rows-by_thread threads))
+      (AddUpAlike-flat_map (λ thread. map (keyed_span_row columns run) (thread_span_rows run.journal thread)) (λ thread. map without_outer (thread_sums columns run thread)) thread-alike threads))
 
-  -- so they are kept alike
-  pub summed-rows : summed (row_sums columns run) ≡ summed (span_sums columns run)
-  summed-rows = summed-alike (row_sums columns run) (span_sums columns run) row_sums-alike
+  -- so they do with the numbers of a set that has none of these
+  pub row_sums-only : (set : NumberSet) → set.longest ≡ false → set.outer ≡ false → AddUpAlike (map (with_only set) (row_sums columns run)) (map (with_only set) (span_sums columns run))
+  row_sums-only set longest outer =
+      subst (AddUpAlike (map (with_only set) (row_sums columns run))) (each (span_sums columns run)) (AddUpAlike-only set (row_sums columns run) (map without_outer (span_sums columns run)) row_sums-alike)
+    where
+      each : (es : KeyedSums) → map (with_only set) (map without_outer es) ≡ map (with_only set) es
+      each [] = refl
+      each (e ∷ es) = ap₂ (λ (s : Sums) (l : KeyedSums). record { key = e.key; step = s } ∷ l) (sym (only_in-plain set e.step longest outer)) (each es)

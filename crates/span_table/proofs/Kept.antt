@@ -1,7 +1,7 @@
 -- What is kept of runs and of rows, once more is added.
 use Rattle.std.specs.{List.Sorted.IsStrictlySortedBy, Prelude.{OnOk, Result, Ok, Err}, declared.alloc.AllocError.AllocError}
 use Rattle.std.proofs.{Common.{◌≡◌, ℕ, ◌+◌, ◌^◌, ◌<◌, List, [], ◌∷◌, ◌++◌, append-nil, append_assoc, length-append, map, refl, sym, ap, ap₂, subst, ◌∙◌, arith}}
-use Rattle.span_table.specs.{Adding.{JoinsRuns, TakesRuns, SummedTable, add_tables, keyed_rows, with_run}, Collected.Takes, Columns.Run, Kept.{IsSummed, rows_with}, Keys.TableKey, Tables.{KeyedSums, RowsRise, SpanTable, SumsByKey, counts_of, counts_together, row_of, rows_of, summed, table_of}, declared.{column.Column.Column, counts.TableCounts.TableCounts, of.Of.Of, sums.Sums.Sums, table.Row.Row}}
+use Rattle.span_table.specs.{Adding.{JoinsRuns, TakesRuns, SummedTable, add_tables, keyed_rows, with_run}, Collected.Takes, Columns.Run, Kept.{IsSummed, rows_with}, Keys.TableKey, Tables.{KeyedSums, RowsRise, Schema, SpanTable, SumsByKey, counts_of, counts_together, row_of, rows_of, summed, table_of}, declared.{counts.TableCounts.TableCounts, sums.Sums.Sums, table.Row.Row}}
 use Rattle.span_table.proofs.{AddedTables.{add_tables-table_of, counts-same, rows-behind, rows-then}, Alike.{AddUpAlike, AddUpAlike-append, AddUpAlike-refl, summed-alike}, OwnRows.rows_of-own, Rows.RowsRise-rows_of}
 
 -- what is kept is what its own rows come to
@@ -59,20 +59,20 @@ pub counts-run : (counts : TableCounts) (run : Run) → counts_together (counts 
 counts-run counts run = ap (λ (more : TableCounts). counts_together (counts ∷ more ∷ [])) (sym (counts_together-one (counts_of run)))
 
 -- a table of some runs, with one more
-pub with_run-runs : (of : Of) (columns : List Column) (runs : List Run) (run : Run) → with_run (table_of of columns runs) run ≡ table_of of columns (runs ++ run ∷ [])
-with_run-runs of columns runs run = add_tables-table_of of columns (runs ∷ (run ∷ []) ∷ [])
+pub with_run-runs : (schema : Schema) (runs : List Run) (run : Run) → with_run (table_of schema runs) run ≡ table_of schema (runs ++ run ∷ [])
+with_run-runs schema runs run = add_tables-table_of schema (runs ∷ (run ∷ []) ∷ [])
 
 -- the sum of some runs takes one more
 pub TakesRuns-run : (old new : SummedTable) (run : Run) → new.table ≡ with_run old.table run → new.parts ≡ old.parts + 1 → TakesRuns old (run ∷ []) new
-TakesRuns-run old new run added parts = λ of columns runs is. record {
-  table = added ∙ ap (λ t. with_run t run) is.table ∙ with_run-runs of columns runs run;
+TakesRuns-run old new run added parts = λ schema runs is. record {
+  table = added ∙ ap (λ t. with_run t run) is.table ∙ with_run-runs schema runs run;
   parts = omega (arith, parts, is.parts, length-append runs (run ∷ []));
 }
 
 -- sums of some runs each, added
-pub JoinsRuns-added : (one other both : SummedTable) → both.table ≡ add_tables one.table.of one.table.columns (one.table ∷ other.table ∷ []) → both.parts ≡ one.parts + other.parts → JoinsRuns one other both
-JoinsRuns-added one other both added parts = λ of columns runs others first second. record {
-  table = added ∙ ap₂ (λ (a b : SpanTable). add_tables a.of a.columns (a ∷ b ∷ [])) first.table second.table ∙ add_tables-table_of of columns (runs ∷ others ∷ []) ∙ ap (λ l. table_of of columns (runs ++ l)) (append-nil others);
+pub JoinsRuns-added : (one other both : SummedTable) → both.table ≡ add_tables one.table.schema (one.table ∷ other.table ∷ []) → both.parts ≡ one.parts + other.parts → JoinsRuns one other both
+JoinsRuns-added one other both added parts = λ schema runs others first second. record {
+  table = added ∙ ap₂ (λ (a b : SpanTable). add_tables a.schema (a ∷ b ∷ [])) first.table second.table ∙ add_tables-table_of schema (runs ∷ others ∷ []) ∙ ap (λ l. table_of schema (runs ++ l)) (append-nil others);
   parts = omega (arith, parts, first.parts, second.parts, length-append runs others);
 }
 

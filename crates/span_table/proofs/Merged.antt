@@ -1,9 +1,9 @@
 -- Rows in order that are merged are those of both.
 use Rattle.std.specs.{List.{AllByRecursion, Sorted.IsStrictlySortedBy}, Option.option_to_list, Ordering.{is_eq, match_ordering, ordering_reverse}, declared.cmp.Ordering.{Ordering, TheVariants.{Less, Equal, Greater}}}
-use Rattle.std.proofs.{Common.{◌≡◌, ℕ, ◌+◌, Bool, true, false, ◌||◌, cond, List, [], ◌∷◌, ◌++◌, Option, Some, None, map, refl, sym, ap, subst, ◌∙◌, append_assoc, arith}, lemmas.List.{append-nil}}
+use Rattle.std.proofs.{Common.{◌≡◌, Bool, true, false, ◌||◌, cond, List, [], ◌∷◌, ◌++◌, Option, Some, None, map, refl, sym, ap, subst, ◌∙◌, append_assoc}, lemmas.List.{append-nil}}
 use Rattle.span_keyed_tracks.proofs.{Keyed.has_key, SameKeys.step_keys}
-use Rattle.span_table.specs.{Keyed, steps_at, Adding.{keyed_row, keyed_rows}, Collected.with_sums, KeyLaws.{key_cmp_total, key_cmp-same}, Keys.{TableKey, key_cmp}, Merging.{heads_cmp, merged, merged_with, with_row_sums}, Tables.{KeyedSums, RowsRise, rows_of, sums_together}, declared.{sums.Sums.Sums, table.Row.Row}}
-use Rattle.span_table.proofs.{AddedTables.rows_of-alike, Alike.{AddUpAlike, AddUpAlike-append, AddUpAlike-refl, AddUpAlike-trans, step_keys-append, sums_at-append}, OwnRows.rows_of-own, Searched.sums_together-one, Summing.sums_together-push, Tallies.sums-same}
+use Rattle.span_table.specs.{Keyed, steps_at, Adding.{keyed_row, keyed_rows}, KeyLaws.{key_cmp_total, key_cmp-same}, Keys.{TableKey, key_cmp}, Merging.{heads_cmp, merged, merged_with, with_row_sums}, Sums.with_sums, Tables.{KeyedSums, RowsRise, rows_of, sums_together}, declared.{sums.Sums.Sums, table.Row.Row}}
+use Rattle.span_table.proofs.{AddedTables.rows_of-alike, Alike.{AddUpAlike, AddUpAlike-append, AddUpAlike-refl, AddUpAlike-trans, step_keys-append, sums_at-append}, OwnRows.rows_of-own, Tallies.{sums_together-one, sums_together-push, with_sums-turned}}
 
 merged-nil : (rows : List Row) → merged rows [] ≡ rows
 merged-nil [] = refl
@@ -69,7 +69,7 @@ RowsRise-merged rows more rise others = (holds-merged Rise
 
 -- lists of sums in either order
 AddUpAlike-turned : (es fs : KeyedSums) → AddUpAlike (es ++ fs) (fs ++ es)
-AddUpAlike-turned es fs = record { there = within es fs; back = within fs es; sums = λ k. sums_at-append k es fs ∙ turned (sums_together (steps_at key_cmp k es)) (sums_together (steps_at key_cmp k fs)) ∙ sym (sums_at-append k fs es) }
+AddUpAlike-turned es fs = record { there = within es fs; back = within fs es; sums = λ k. sums_at-append k es fs ∙ with_sums-turned (sums_together (steps_at key_cmp k es)) (sums_together (steps_at key_cmp k fs)) ∙ sym (sums_at-append k fs es) }
   where
     or-turned : (a b : Bool) → (a || b) ≡ (b || a)
     or-turned true true = refl
@@ -79,12 +79,6 @@ AddUpAlike-turned es fs = record { there = within es fs; back = within fs es; su
 
     within : (es fs : KeyedSums) (k : TableKey) → has_key key_cmp k (step_keys (es ++ fs)) ≡ true → has_key key_cmp k (step_keys (fs ++ es)) ≡ true
     within es fs k h = step_keys-append k fs es ∙ or-turned (has_key key_cmp k (step_keys fs)) (has_key key_cmp k (step_keys es)) ∙ sym (step_keys-append k es fs) ∙ h
-
-    plus : (m n : ℕ) → m + n ≡ n + m
-    plus m n = omega arith
-
-    turned : (a b : Sums) → with_sums a b ≡ with_sums b a
-    turned a b = sums-same (with_sums a b) (with_sums b a) (λ f is. is.both a b ∙ plus (f a) (f b) ∙ sym (is.both b a))
 
 -- one of them moved to the front
 AddUpAlike-moved : (e : Keyed TableKey Sums) (es fs : KeyedSums) → AddUpAlike (e ∷ (es ++ fs)) (es ++ e ∷ fs)

@@ -3,8 +3,8 @@ use Rattle.std.specs.{BTreeSet.insert_key, Cmp.IsTotalOrder, List.{AllByRecursio
 use Rattle.std.proofs.{Common.{◌≡◌, List, [], ◌∷◌, ◌++◌, get_or, map, refl, sym, ap, ap₂, subst, ◌∙◌, append_assoc}, lemmas.List.{append-nil, get_or_default, Elements.recursion_from_All}}
 use Rattle.span_journal.proofs.Sorted.{map-map}
 use Rattle.span_ledger.proofs.RowOrder.{span_rows-sorted}
-use Rattle.span_table.specs.{text_cmp, ascending, entry_of, SpanRow, span_order, span_rows, Adding.{keyed_row, keyed_rows}, KeyLaws.key_cmp_total, Keys.key_cmp, Laws.{RowsAreSpanRows, of_span_row, row_columns}, RowSearch.sums_at, Tables.{RowsRise, row_of, rows_of, span_sums}, declared.table.Row.Row}
-use Rattle.span_table.proofs.{ByName.summed-rows, Searched.sums_at-own}
+use Rattle.span_table.specs.{text_cmp, ascending, entry_of, SpanRow, span_order, span_rows, Adding.{keyed_row, keyed_rows}, KeyLaws.key_cmp_total, Keys.key_cmp, Laws.{RowsAreSpanRows, of_span_row, row_columns}, RowSearch.sums_at, Collected.{keyed_span_row, row_sums}, Numbers.{set_of, usual_numbers}, Tables.{RowsRise, row_of, rows_of, span_sums, with_only}, declared.{audience.Audience.TheVariants.Programs, of.Of.TheVariants.Spans, table.Row.Row}}
+use Rattle.span_table.proofs.{Alike.summed-alike, ByName.row_sums-only, Searched.sums_at-own}
 
 module _ {K : Type 0} {R : K → K → Ordering} (o : IsTotalOrder R) where
   insert_key-last : (done : List K) (k : K) (ks : List K) → IsStrictlySortedBy R (done ++ k ∷ ks) → insert_key R done k ≡ done ++ k ∷ []
@@ -74,7 +74,8 @@ span_rows-rise (row ∷ rows) sorted = (below rows sorted.0, span_rows-rise rows
 pub rows-are_span_rows : RowsAreSpanRows
 rows-are_span_rows run =
     let rows = map of_span_row (span_rows run.journal) in
-    ap rows_of (append-nil (span_sums row_columns run))
-    ∙ ap (map row_of) (sym (summed-rows row_columns run refl))
-    ∙ ap rows_of (sym (map-map keyed_row of_span_row (span_rows run.journal)))
+    let set = set_of (usual_numbers Programs Spans) in
+    ap rows_of (append-nil (map (with_only set) (span_sums row_columns run)))
+    ∙ ap (map row_of) (sym (summed-alike (map (with_only set) (row_sums row_columns run)) (map (with_only set) (span_sums row_columns run)) (row_sums-only row_columns run refl set refl refl)))
+    ∙ ap rows_of (map-map (with_only set) (keyed_span_row row_columns run) (span_rows run.journal) ∙ sym (map-map keyed_row of_span_row (span_rows run.journal)))
     ∙ rows_of-own rows (span_rows-rise (span_rows run.journal) (span_rows-sorted run.journal))

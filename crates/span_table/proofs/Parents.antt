@@ -1,8 +1,9 @@
 -- The parents of spans as columns see them.
-use Rattle.std.specs.{List.list_any, Option.{option_and_then, option_map}, Prelude.{filter, slice_get}}
+use Rattle.std.specs.{List.list_any, Option.{option_and_then, option_map}, Prelude.{filter, not, slice_get, unwrap_or}}
 use Rattle.std.proofs.{Common.{◌≡◌, ℕ, Bool, true, false, ◌&&◌, ◌||◌, cond, int_le, List, [], ◌∷◌, map, Option, Some, None, refl, sym, ap, ap₂, ◌∙◌}, lemmas.{Bool.or_parts, Option.slice_get-map, Simd.map-map, List.map-id}}
 use Rattle.span_self_time.proofs.Mapped.{filter-map}
-use Rattle.span_table.specs.{Bytes, Thread, Span, Timed, timed_in, is_child, outranks, higher, highest, holders, parent_of, spans_of, Collected.{KnowParents, place_at, span_at}, Columns.{Called, Run, Value, is_of_parent, value_at}, Tables.{called, span_key}, declared.column.Column.{Column, TheVariants.{Pid, Tid, Process, Thread as OfThread, Name, File, Cat, Scope, Id, Argument, ParentName, ParentArgument}}}
+use Rattle.span_table.specs.{Bytes, Thread, Span, Timed, timed_in, length_of, is_child, is_outer, named, outranks, same_text, higher, highest, holders, parent_of, spans_of, Collected.{KnowOuter, KnowParents, outer_at, place_at, span_at}, Columns.{Called, Run, Value, is_of_parent, value_at}, Numbers.only_in, Tables.{called, span_key, sums_of, sums_of_span}, declared.{column.Column.{Column, TheVariants.{Pid, Tid, Process, Thread as OfThread, Name, File, Cat, Scope, Id, Argument, ParentName, ParentArgument}}, number_set.NumberSet.NumberSet}}
+use Rattle.span_table.proofs.Tallies.{same_numbers}
 
 pub option_map-map : {A B C : Type 0} (f : B → C) (g : A → B) (o : Option A) → option_map f (option_map g o) ≡ option_map (λ x. f (g x)) o
 option_map-map f g None = refl
@@ -29,6 +30,17 @@ module _ {N M : Type 0} (f : Span N → Span M) (starts : (s : Span N) → (f s)
 
   pub parent_of-map : (spans : List (Span N)) (s : Span N) → parent_of (map f spans) (f s) ≡ option_map f (parent_of spans s)
   parent_of-map spans s = ap highest (holders-map spans s) ∙ highest-map (holders spans s)
+
+-- a span is outer among spans of the same names that lie and rank alike
+pub is_outer-map : (f : Span Bytes → Span Bytes) → ((s : Span Bytes) → (f s).start ≡ s.start) → ((s : Span Bytes) → (f s).until ≡ s.until) → ((a b : Span Bytes) → outranks (f a) (f b) ≡ outranks a b) →
+    ((s : Span Bytes) → (f s).name ≡ s.name) → (spans : List (Span Bytes)) (s : Span Bytes) → is_outer (map f spans) (f s) ≡ is_outer spans s
+is_outer-map f starts ends ranks names spans s =
+    ap not (ap (list_any (λ t. is_child (f s) t)) (filter-map (λ (t : Span Bytes). same_text t.name (f s).name) f spans ∙ (λ i. map f (filter (λ t. same_text (names t i) (names s i)) spans)))
+    ∙ each (named same_text s.name spans))
+  where
+    each : (xs : List (Span Bytes)) → list_any (λ t. is_child (f s) t) (map f xs) ≡ list_any (λ t. is_child s t) xs
+    each [] = refl
+    each (x ∷ xs) = ap₂ (λ a b. a || b) (is_child-map f starts ends ranks s x) (each xs)
 
 -- the spans of timed ones are these
 pub spans_of-timed : (spans xs : List (Span Bytes)) → spans_of (map (timed_in spans) xs) ≡ xs
@@ -72,3 +84,17 @@ span_key-known columns run thread spans places at s known here = by (list_any is
     by : (b : Bool) → list_any is_of_parent columns ≡ b → map (value_at run thread (called s) (option_map called (span_at spans (place_at places at)))) columns ≡ span_key columns run thread spans s
     by true e = ap (λ p. map (value_at run thread (called s) (option_map called p)) columns) (parent-known spans places at s (known e) here)
     by false e = key-no_parent run thread (called s) (option_map called (span_at spans (place_at places at))) (option_map called (parent_of spans s)) columns e
+
+-- a step has the numbers of a set that are known of the span at a place
+pub sums_of-known : (set : NumberSet) (spans : List (Span Bytes)) (outer : List Bool) (at : ℕ) (t : Timed) → KnowOuter set.outer spans outer → slice_get spans at ≡ Some t.span →
+    only_in set (sums_of_span (length_of t.span) t.self_time (outer_at outer at)) ≡ only_in set (sums_of spans t)
+sums_of-known set spans outer at t known here = by set.outer refl
+  where
+    by : (b : Bool) → set.outer ≡ b → only_in set (sums_of_span (length_of t.span) t.self_time (outer_at outer at)) ≡ only_in set (sums_of spans t)
+    by true e =
+        let found : slice_get outer at ≡ Some (is_outer spans t.span) = ap (λ (l : List Bool). slice_get l at) (known e) ∙ slice_get-map (is_outer spans) spans at ∙ ap (option_map (is_outer spans)) here in
+        ap (λ o. only_in set (sums_of_span (length_of t.span) t.self_time (unwrap_or o false))) found
+    by false e =
+        let nothing = λ (outer : Bool). ap (λ b. cond b (cond outer (length_of t.span) 0) 0) e in
+        same_numbers (only_in set (sums_of_span (length_of t.span) t.self_time (outer_at outer at))) (only_in set (sums_of spans t)) refl refl refl refl
+        (nothing (outer_at outer at) ∙ sym (nothing (is_outer spans t.span))) refl refl

@@ -3,7 +3,7 @@ use Rattle.std.specs.{Cmp.tied_itself, Fn.{Called, ComputesKey}, List.{AllByRecu
 use Rattle.std.proofs.{Common.{◌≡◌, ℕ, ◌-◌, ◌<◌, ◌≤◌, ◌==◌, ◌||◌, Bool, true, false, List, Option, Some, None, length, get_or, slice_get, refl, sym, ap, ◌∙◌, arith, inl, inr, ◌⊎◌, ◌+◌, zero, suc, cond, [], ◌∷◌, map, Bor, subst, add-one}, lemmas.{Fn.always_returns_same, List.Sorted.searchable_from_sorted, Option.{slice_get-get_or, slice_get_within}}}
 use Rattle.span_keyed_tracks.proofs.{Keyed.same_from_is_eq, Uses.is_eq-turned}
 use Rattle.span_table.specs.{Keyed, steps_at, Adding.{keyed_row, keyed_rows}, KeyLaws.{key_cmp-same, key_cmp_total}, Keys.{TableKey, key_cmp}, RowSearch.{found_at, is_behind, order_at, sums_at}, Tables.{RowsRise, sums_together}, declared.{sums.Sums.Sums, table.Row.Row}}
-use Rattle.span_table.proofs.Tallies.{sums-same}
+use Rattle.span_table.proofs.Tallies.{sums_together-one}
 use denote.Param.Members.{Mut}
 
 -- in rows that rise no later one has the key of the first
@@ -21,13 +21,6 @@ steps-none key (r ∷ rows) none = by (is_eq (key_cmp r.key key)) (steps-none ke
         map (λ (e : Keyed TableKey Sums). e.step) (cond b (keyed_row r ∷ filter (λ e. is_eq (key_cmp e.key key)) (keyed_rows rows)) (filter (λ e. is_eq (key_cmp e.key key)) (keyed_rows rows))) ≡ []
     by true rest none = cc
     by false rest none = rest none
-
--- one alone stays as it is
-pub sums_together-one : (s : Sums) → sums_together (s ∷ []) ≡ s
-sums_together-one s = sums-same (sums_together (s ∷ [])) s (λ f is. is.together (s ∷ []) ∙ none-before (f s))
-  where
-    none-before : (n : ℕ) → 0 + n ≡ n
-    none-before n = omega arith
 
 -- what rows that rise have under a key is what the row with the key has
 pub sums_at-found : (key : TableKey) (rows : List Row) → RowsRise rows → sums_at rows key ≡ unwrap_or (option_map (λ (row : Row). row.sums) (found_at rows key)) (sums_together [])

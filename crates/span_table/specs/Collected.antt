@@ -1,28 +1,26 @@
 -- How the sums of a table are collected: row by row of a ledger's names or asynchronous keys, or span by span.
-use Rattle.std.specs.{List.list_any, Map.lookup, Option.option_and_then, Ordering.eq_by_cmp, Prelude.{◌≡◌, ◌||◌, ℕ, ◌+◌, Bool, true, List, [], ◌++◌, map, slice_get, Option, Some, None}}
-use Rattle.span_table.specs.{Bytes, Keyed, Span, SpanRow, parent_of, thread_of_span, span_rows, Columns.{Called, Run, is_argument, is_of_parent, value_at}, Keys.{TableKey, key_cmp}, Tables.{KeyedSums, SumsByKey, summed}, declared.{column.Column.Column, sums.Sums.Sums}}
-
--- the sums of a row
-abbrev pub sums_of_row : SpanRow → Sums
-sums_of_row row = record { count = row.count; total = row.total; self_time = row.self_time; unclosed = 0; points = 0 }
-
--- these sums added
-abbrev pub with_sums : Sums → Sums → Sums
-with_sums a b = record {
-  count = a.count + b.count;
-  total = a.total + b.total;
-  self_time = a.self_time + b.self_time;
-  unclosed = a.unclosed + b.unclosed;
-  points = a.points + b.points;
-}
-
--- what is kept of some sums becomes what is kept of them and more
-pub record Takes (old new : SumsByKey) (more : KeyedSums) : Type 0 where
-  pub sums : (sums : KeyedSums) → old ≡ summed sums → new ≡ summed (sums ++ more)
+use Rattle.std.specs.{List.list_any, Map.lookup, Option.option_and_then, Ordering.eq_by_cmp, Prelude.{◌≡◌, ◌||◌, ℕ, Bool, true, false, List, [], ◌++◌, map, slice_get, unwrap_or, Option, Some, None}}
+use Rattle.span_table.specs.{Bytes, Keyed, Span, SpanRow, is_outer, parent_of, thread_of_span, span_rows, Columns.{Called, Run, is_argument, is_of_parent, value_at}, Keys.{TableKey, key_cmp}, Tables.{KeyedSums, SumsByKey, summed}, declared.{column.Column.Column, number_set.NumberSet.NumberSet, sums.Sums.Sums}}
 
 -- the column asks a span for more than its name
 abbrev pub asks_spans : Column → Bool
 asks_spans column = is_argument column || is_of_parent column
+
+-- the sums of a row, without the numbers that only its spans tell
+abbrev pub sums_of_row : SpanRow → Sums
+sums_of_row row = record { count = row.count; total = row.total; self_time = row.self_time; longest = 0; outer = 0; unclosed = 0; points = 0 }
+
+-- sums without these numbers
+abbrev pub plain_sums : Sums → Sums
+plain_sums s = record { count = s.count; total = s.total; self_time = s.self_time; longest = 0; outer = 0; unclosed = s.unclosed; points = s.points }
+
+-- spans are asked for more than their names: by a column, or for a number
+abbrev pub asks_each_span : List Column → NumberSet → Bool
+asks_each_span columns set = list_any asks_spans columns || (set.longest || set.outer)
+
+-- what is kept of some sums becomes what is kept of them and more
+pub record Takes (old new : SumsByKey) (more : KeyedSums) : Type 0 where
+  pub sums : (sums : KeyedSums) → old ≡ summed sums → new ≡ summed (sums ++ more)
 
 -- the span at a place, if there is one
 abbrev pub span_at : List (Span Bytes) → Option ℕ → Option (Span Bytes)
@@ -35,6 +33,14 @@ place_at places at = option_and_then (λ place. place) (slice_get places at)
 -- the places are those of the parents of the spans, if a column asks for them
 abbrev pub KnowParents : List Column → List (Span Bytes) → List (Option ℕ) → Type 0
 KnowParents columns spans places = list_any is_of_parent columns ≡ true → map (span_at spans) places ≡ map (parent_of spans) spans
+
+-- whether the span at a place is outer, as far as that is known
+abbrev pub outer_at : List Bool → ℕ → Bool
+outer_at outer place = unwrap_or (slice_get outer place) false
+
+-- which of the spans of a thread are outer, if that is asked for
+abbrev pub KnowOuter : Bool → List (Span Bytes) → List Bool → Type 0
+KnowOuter asked spans outer = asked ≡ true → outer ≡ map (is_outer spans) spans
 
 -- what has this name, and no arguments
 abbrev pub named_alone : Bytes → Called

@@ -1,6 +1,6 @@
 -- Rows in order that are merged with others.
 use Rattle.std.specs.{Ordering.match_ordering, Prelude.{List, [], ◌∷◌}, declared.cmp.Ordering.{Ordering, TheVariants.{Less, Greater}}}
-use Rattle.span_table.specs.{Collected.with_sums, Keys.key_cmp, declared.table.Row.Row}
+use Rattle.span_table.specs.{Keys.key_cmp, Sums.with_sums, declared.table.Row.Row}
 
 -- two rows of the same key added
 abbrev pub with_row_sums : Row → Row → Row

@@ -1,24 +1,34 @@
 -- Tables: the closed spans of runs, or their asynchronous spans, summed by columns.
-use Rattle.std.specs.{List.Sorted.IsStrictlySortedBy, Option.option_map, Prelude.{List, map, flat_map, sum_by}}
-use Rattle.span_table.specs.{Thread, AsyncRow, Keyed, entries_in, CountRow, accepted, async_rows, count_row, thread_keys, Timed, timed_spans, thread_events, Bytes, Span, closed_spans, length_of, parent_of, Columns.{Called, async_value_at, value_at}, Keys.{TableKey, key_cmp}, declared.{column.Column.Column, counts.TableCounts.TableCounts, of.Of.{Of, TheVariants.{Spans, Async}}, sums.Sums.Sums, table.Row.Row}}
-pub use Rattle.span_table.specs.Columns.{Run}
+use Rattle.std.specs.{List.Sorted.IsStrictlySortedBy, Option.option_map, Prelude.{ℕ, if◌then◌else◌, Bool, List, map, flat_map, sum_by}}
+use Rattle.span_table.specs.{Thread, AsyncRow, Keyed, entries_in, CountRow, accepted, async_rows, count_row, longest_async, thread_keys, Timed, timed_spans, thread_events, Bytes, Span, closed_spans, is_outer, length_of, parent_of, Columns.{Called, async_value_at, value_at}, Keys.{TableKey, key_cmp}, Numbers.{only_in, set_of, usual_numbers}, declared.{number_set.NumberSet.NumberSet, column.Column.Column, counts.TableCounts.TableCounts, number.Number.Number, of.Of.{Of, TheVariants.{Spans, Async}}, audience.Audience.TheVariants.Programs, sums.Sums.Sums, table.Row.Row}}
+pub use Rattle.span_table.specs.{Columns.Run, Sums.sums_together}
 
--- a closed span with its self time
-abbrev pub sums_of : Timed → Sums
-sums_of t = record { count = 1; total = length_of t.span; self_time = t.self_time; unclosed = 0; points = 0 }
+-- the numbers of a closed span of this length and self time, which is outer or isn't
+abbrev pub sums_of_span : ℕ → ℕ → Bool → Sums
+sums_of_span length self_time outer = record {
+  count = 1;
+  total = length;
+  self_time = self_time;
+  longest = length;
+  outer = if outer then length else 0;
+  unclosed = 0;
+  points = 0;
+}
 
--- an asynchronous key with its numbers
-abbrev pub sums_of_async : AsyncRow → Sums
-sums_of_async row = record { count = row.totals.closed; total = row.totals.total; self_time = 0; unclosed = row.totals.unclosed; points = row.totals.points }
+-- those of one of the spans of a thread
+abbrev pub sums_of : List (Span Bytes) → Timed → Sums
+sums_of spans t = sums_of_span (length_of t.span) t.self_time (is_outer spans t.span)
 
--- all of these added
-abbrev pub sums_together : List Sums → Sums
-sums_together sums = record {
-  count = sum_by (λ (s : Sums). s.count) sums;
-  total = sum_by (λ (s : Sums). s.total) sums;
-  self_time = sum_by (λ (s : Sums). s.self_time) sums;
-  unclosed = sum_by (λ (s : Sums). s.unclosed) sums;
-  points = sum_by (λ (s : Sums). s.points) sums;
+-- an asynchronous key with its numbers, and the length of its longest closed span
+abbrev pub sums_of_async : AsyncRow → ℕ → Sums
+sums_of_async row longest = record {
+  count = row.totals.closed;
+  total = row.totals.total;
+  self_time = 0;
+  longest = longest;
+  outer = 0;
+  unclosed = row.totals.unclosed;
+  points = row.totals.points;
 }
 
 -- sums, each under its key
@@ -35,7 +45,7 @@ span_key columns run thread spans s = map (value_at run thread (called s) (optio
 
 -- a closed span of a thread, under its key
 abbrev pub keyed_span : List Column → Run → Thread → List (Span Bytes) → Timed → Keyed TableKey Sums
-keyed_span columns run thread spans t = record { key = span_key columns run thread spans t.span; step = sums_of t }
+keyed_span columns run thread spans t = record { key = span_key columns run thread spans t.span; step = sums_of spans t }
 
 -- the closed spans of a thread
 abbrev pub thread_sums : List Column → Run → Thread → KeyedSums
@@ -47,13 +57,13 @@ span_sums columns run = flat_map (thread_sums columns run) (thread_keys (accepte
 
 -- what an asynchronous key has, under the key of the table
 abbrev pub keyed_async : List Column → Run → AsyncRow → Keyed TableKey Sums
-keyed_async columns run row = record { key = map (async_value_at run row.key) columns; step = sums_of_async row }
+keyed_async columns run row = record { key = map (async_value_at run row.key) columns; step = sums_of_async row (longest_async run.journal row.key) }
 
 -- what the asynchronous keys of a run have that have an accepted event
 abbrev pub async_sums : List Column → Run → KeyedSums
 async_sums columns run = map (keyed_async columns run) (async_rows run.journal)
 
--- what a table sums of a run
+-- what there is to sum of a run, by its columns
 abbrev pub run_sums : Of → List Column → Run → KeyedSums
 run_sums Spans columns run = span_sums columns run
 run_sums Async columns run = async_sums columns run
@@ -99,18 +109,34 @@ counts_together all = record {
 abbrev pub counts_of : Run → TableCounts
 counts_of run = record { runs = 1; files = run.files; unread = run.unread; entries = count_row run.journal }
 
--- spans summed by columns
-pub record SpanTable : Type 0 where
+-- what a table sums, by which columns, and which numbers it has
+pub record Schema : Type 0 where
   pub of : Of
   pub columns : List Column
+  pub numbers : List Number
+
+-- the same with the numbers that rows for other programs have where none are named
+abbrev pub usual_schema : Of → List Column → Schema
+usual_schema of columns = record { of = of; columns = columns; numbers = usual_numbers Programs of }
+
+-- spans summed by columns
+pub record SpanTable : Type 0 where
+  pub schema : Schema
   pub counts : TableCounts
   pub rows : List Row
 
--- the table of some runs by columns
-abbrev pub table_of : Of → List Column → List Run → SpanTable
-table_of of columns runs = record {
-  of = of;
-  columns = columns;
+-- sums with the numbers of a set alone
+abbrev pub with_only : {K : Type 0} → NumberSet → Keyed K Sums → Keyed K Sums
+with_only set e = record { key = e.key; step = only_in set e.step }
+
+-- what a table of a schema sums of a run
+abbrev pub schema_sums : Schema → Run → KeyedSums
+schema_sums schema run = map (with_only (set_of schema.numbers)) (run_sums schema.of schema.columns run)
+
+-- the table of some runs
+abbrev pub table_of : Schema → List Run → SpanTable
+table_of schema runs = record {
+  schema = schema;
   counts = counts_together (map counts_of runs);
-  rows = rows_of (flat_map (run_sums of columns) runs);
+  rows = rows_of (flat_map (schema_sums schema) runs);
 }

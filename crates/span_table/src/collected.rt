@@ -1,36 +1,42 @@
-//! Adds the sums of a run: from the rows of names or of asynchronous keys, or span by span where a column is an argument.
-ghost use Rattle.std.specs.{List.list_any, Option.option_map, Prelude.{◌≡◌, ◌∷◌, [], map, IfOk, OnOk}};
-ghost use Rattle.span_table.specs.{AreSpans, distance, spans_of, timed_spans, Collected.{KnowParents, Takes, asks_spans, keyed_span_row, place_at, row_sums, span_at}, Columns.{async_value_at, is_of_parent, value_at}, Tables.{async_sums, called, keyed_async, run_sums, span_sums, sums_of, thread_sums}};
+//! Adds the sums of a run: from the rows of names or of asynchronous keys, or span by span where the table asks spans for more.
+ghost use Rattle.std.specs.{List.list_any, Option.option_map, Prelude.{◌≡◌, ◌∷◌, [], map, IfOk, IsTrue, OnOk}};
+ghost use Rattle.span_table.specs.{AreSpans, distance, length_of, longest_async, spans_of, timed_spans, Collected.{KnowOuter, KnowParents, Takes, asks_each_span, asks_spans, keyed_span_row, outer_at, place_at, row_sums, span_at}, Columns.{async_value_at, is_of_parent, value_at}, Numbers.{only_in, set_of}, Tables.{async_sums, called, keyed_async, schema_sums, span_sums, sums_of_span, thread_sums, with_only}};
 
 use crate::column::Column;
 use crate::groups::Groups;
 use crate::key::Key;
+use crate::number_set::NumberSet;
 use crate::of::Of;
 use crate::run::LedgerRun;
+use crate::schema::Schema;
 use crate::seen::{CalledSpan, SeenSpan};
 use crate::sums::Sums;
 use span_event::{Args, Thread};
 use span_journal::SpanRow;
 use span_keyed_tracks::{AsyncKey, AsyncRow};
 use span_ledger::TimedSpan;
-use span_parents::parents;
+use span_parents::{outer, parents};
 use std::alloc::{AllocError, Global};
 
-/// A run, and the columns by which it is summed.
+/// A run, and the schema of the table for which it is summed.
 #[derive(Clone, Copy)]
 pub(crate) struct RunColumns<'r, 'a> {
     pub(crate) alloc: Global,
     pub(crate) run: &'r LedgerRun<'a>,
-    pub(crate) columns: &'r [Column],
+    pub(crate) schema: &'r Schema,
+    /// That of the schema's numbers.
+    pub(crate) set: NumberSet,
 }
 
 impl<'r, 'a> RunColumns<'r, 'a> {
     /// Adds the sums of the run.
-    pub(crate) fn add_to(&self, groups: &mut Groups, of: Of) -> Result<(), AllocError>
+    pub(crate) fn add_to(&self, groups: &mut Groups) -> Result<(), AllocError>
+        requires { self.now.set ≡ set_of self.now.schema.now.numbers }
         ensures { OnOk result (Takes groups.old groups.new
-            (run_sums of self.now.columns.now self.now.run.now)) }
+            (schema_sums self.now.schema.now self.now.run.now)) }
     {
-        match of {
+        let schema = self.schema;
+        match schema.of {
             Of::Spans => self.add_closed(groups),
             Of::Async => self.add_async_rows(groups),
         }
@@ -38,19 +44,28 @@ impl<'r, 'a> RunColumns<'r, 'a> {
 
     // The sums of closed spans.
     fn add_closed(&self, groups: &mut Groups) -> Result<(), AllocError>
+        requires { self.now.set ≡ set_of self.now.schema.now.numbers }
         ensures { OnOk result (Takes groups.old groups.new
-            (span_sums self.now.columns.now self.now.run.now)) }
+            (map (with_only self.now.set) (span_sums self.now.schema.now.columns self.now.run.now))) }
     {
-        if ask_spans(self.columns) {
+        if self.asks_each_span() {
             return self.add_spans(groups);
         }
         self.add_rows(groups)
     }
 
-    // The sums of the rows of names, by columns of which none asks a span for more than its name.
+    // Whether spans are asked for more than their names.
+    fn asks_each_span(&self) -> bool
+        ensures { result ≡ asks_each_span self.now.schema.now.columns self.now.set }
+    {
+        let schema = self.schema;
+        ask_spans(&schema.columns) || self.set.longest || self.set.outer
+    }
+
+    // The sums of the rows of names, for a table that asks a span for no more than its name.
     fn add_rows(&self, groups: &mut Groups) -> Result<(), AllocError>
         ensures { OnOk result (Takes groups.old groups.new
-            (row_sums self.now.columns.now self.now.run.now)) }
+            (map (with_only self.now.set) (row_sums self.now.schema.now.columns self.now.run.now))) }
     {
         let run = self.run;
         let rows = run.ledger.span_rows(self.alloc)?;
@@ -70,7 +85,7 @@ impl<'r, 'a> RunColumns<'r, 'a> {
     ) -> Result<(), AllocError>
         requires { none.now ≡ [] }
         ensures { OnOk result (Takes groups.old groups.new
-            (keyed_span_row self.now.columns.now self.now.run.now row.now ∷ [])) }
+            (with_only self.now.set (keyed_span_row self.now.schema.now.columns self.now.run.now row.now) ∷ [])) }
     {
         let thread = Thread {
             pid: row.pid,
@@ -85,13 +100,13 @@ impl<'r, 'a> RunColumns<'r, 'a> {
             parent: None,
         };
         let key = self.key_of(&seen)?;
-        groups.add(key, Sums::of_row(row))
+        groups.add(key, Sums::of_row(row).only(self.set))
     }
 
     // The sums of the rows of asynchronous keys.
     fn add_async_rows(&self, groups: &mut Groups) -> Result<(), AllocError>
         ensures { OnOk result (Takes groups.old groups.new
-            (async_sums self.now.columns.now self.now.run.now)) }
+            (map (with_only self.now.set) (async_sums self.now.schema.now.columns self.now.run.now))) }
     {
         let run = self.run;
         let rows = run.ledger.async_rows(self.alloc)?;
@@ -103,16 +118,29 @@ impl<'r, 'a> RunColumns<'r, 'a> {
 
     fn add_async_row(&self, groups: &mut Groups, row: &AsyncRow) -> Result<(), AllocError>
         ensures { OnOk result (Takes groups.old groups.new
-            (keyed_async self.now.columns.now self.now.run.now row.now ∷ [])) }
+            (with_only self.now.set (keyed_async self.now.schema.now.columns self.now.run.now row.now) ∷ [])) }
     {
         let key = self.async_key_of(&row.key)?;
-        groups.add(key, Sums::of_async(row))
+        let sums = Sums::of_async(row, self.longest_of(&row.key));
+        groups.add(key, sums.only(self.set))
+    }
+
+    // The length of the longest closed span of an asynchronous key, if that is asked for.
+    fn longest_of(&self, key: &AsyncKey) -> u64
+        ensures { IsTrue self.now.set.longest
+            → result ≡ longest_async self.now.run.now.journal key.now }
+    {
+        if self.set.longest {
+            let run = self.run;
+            return run.ledger.longest_async(key);
+        }
+        0
     }
 
     // The sums of closed spans, one by one.
     fn add_spans(&self, groups: &mut Groups) -> Result<(), AllocError>
         ensures { OnOk result (Takes groups.old groups.new
-            (span_sums self.now.columns.now self.now.run.now)) }
+            (map (with_only self.now.set) (span_sums self.now.schema.now.columns self.now.run.now))) }
     {
         let run = self.run;
         let threads = run.ledger.threads(self.alloc)?;
@@ -128,17 +156,18 @@ impl<'r, 'a> RunColumns<'r, 'a> {
 
     fn add_thread(&self, groups: &mut Groups, thread: Thread) -> Result<(), AllocError>
         ensures { OnOk result (Takes groups.old groups.new
-            (thread_sums self.now.columns.now self.now.run.now thread)) }
+            (map (with_only self.now.set) (thread_sums self.now.schema.now.columns self.now.run.now thread))) }
     {
         let spans = timed_spans(self.alloc, self.run, thread)?;
         let places = self.parents_of(&spans)?;
+        let outer = self.outer_of(&spans)?;
         for (place, timed) in spans.iter().enumerate() {
             let seen = SeenSpan {
                 thread,
                 span: CalledSpan::of(timed),
                 parent: parent_at(&spans, &places, place),
             };
-            self.add_span(groups, &seen, timed)?;
+            self.add_span(groups, &seen, timed, outer_at(&outer, place))?;
         }
         Ok(())
     }
@@ -147,10 +176,23 @@ impl<'r, 'a> RunColumns<'r, 'a> {
     fn parents_of(&self, spans: &[TimedSpan]) -> Result<Vec<Option<usize>>, AllocError>
         requires { AreSpans (spans_of spans.now) }
         ensures { IfOk result (λ places.
-            KnowParents self.now.columns.now (spans_of spans.now) places.items) }
+            KnowParents self.now.schema.now.columns (spans_of spans.now) places.items) }
     {
-        if ask_parents(self.columns) {
+        let schema = self.schema;
+        if ask_parents(&schema.columns) {
             return parents(self.alloc, spans);
+        }
+        Ok(Vec::new(self.alloc))
+    }
+
+    // Which of the closed spans of a thread are outer, if that number is asked for.
+    fn outer_of(&self, spans: &[TimedSpan]) -> Result<Vec<bool>, AllocError>
+        requires { AreSpans (spans_of spans.now) }
+        ensures { IfOk result (λ found.
+            KnowOuter self.now.set.outer (spans_of spans.now) found.items) }
+    {
+        if self.set.outer {
+            return outer(self.alloc, spans);
         }
         Ok(Vec::new(self.alloc))
     }
@@ -160,27 +202,32 @@ impl<'r, 'a> RunColumns<'r, 'a> {
         groups: &mut Groups,
         seen: &SeenSpan,
         timed: &TimedSpan,
+        is_outer: bool,
     ) -> Result<(), AllocError>
         ensures { OnOk result (Takes groups.old groups.new (record {
           key = map (value_at self.now.run.now seen.now.thread seen.now.span seen.now.parent)
-              self.now.columns.now;
-          step = sums_of timed.now;
+              self.now.schema.now.columns;
+          step = only_in self.now.set
+              (sums_of_span (length_of timed.now.span) timed.now.self_time is_outer);
         } ∷ [])) }
     {
         let span = timed.span;
         let key = self.key_of(seen)?;
-        let sums = Sums::of_span(length(span.start, span.until), timed.self_time);
-        groups.add(key, sums)
+        let length = length(span.start, span.until);
+        let sums = Sums::of_span(length, timed.self_time, is_outer);
+        groups.add(key, sums.only(self.set))
     }
 
     // The key of a span.
     fn key_of(&self, seen: &SeenSpan) -> Result<Key, AllocError>
         ensures { IfOk result (λ key. key
             ≡ map (value_at self.now.run.now seen.now.thread seen.now.span seen.now.parent)
-            self.now.columns.now) }
+            self.now.schema.now.columns) }
     {
-        let mut values = Vec::with_capacity(self.alloc, self.columns.len())?;
-        for column in self.columns {
+        let schema = self.schema;
+        let columns = schema.columns.as_slice();
+        let mut values = Vec::with_capacity(self.alloc, columns.len())?;
+        for column in columns {
             values.push(column.value(self.alloc, self.run, seen)?)?;
         }
         Ok(Key::of(values))
@@ -189,10 +236,12 @@ impl<'r, 'a> RunColumns<'r, 'a> {
     // The key of an asynchronous key.
     fn async_key_of(&self, key: &AsyncKey) -> Result<Key, AllocError>
         ensures { IfOk result (λ values.
-            values ≡ map (async_value_at self.now.run.now key.now) self.now.columns.now) }
+            values ≡ map (async_value_at self.now.run.now key.now) self.now.schema.now.columns) }
     {
-        let mut values = Vec::with_capacity(self.alloc, self.columns.len())?;
-        for column in self.columns {
+        let schema = self.schema;
+        let columns = schema.columns.as_slice();
+        let mut values = Vec::with_capacity(self.alloc, columns.len())?;
+        for column in columns {
             values.push(column.async_value(self.alloc, self.run, key)?)?;
         }
         Ok(Key::of(values))
@@ -203,6 +252,16 @@ fn ask_spans(columns: &[Column]) -> bool
     ensures { result ≡ list_any asks_spans columns.now }
 {
     columns.iter().any(|column| column.asks_spans())
+}
+
+// Whether the span at a place is outer, as far as that is known.
+fn outer_at(outer: &[bool], place: usize) -> bool
+    ensures { result ≡ outer_at outer.now place }
+{
+    match outer.get(place) {
+        Some(outer) => *outer,
+        None => false,
+    }
 }
 
 fn ask_parents(columns: &[Column]) -> bool

@@ -1,6 +1,7 @@
 //! Tables: the closed spans of runs, or their asynchronous spans, summed by columns.
 #![tactic(auto)]
 
+mod audience;
 mod collected;
 mod column;
 mod counts;
@@ -9,21 +10,26 @@ mod key;
 pub mod laws;
 mod merging;
 mod number;
+mod number_set;
 mod of;
 mod row_search;
 mod run;
+mod schema;
 mod seen;
 mod sums;
 mod table;
 mod table_sum;
 mod wide;
 
+pub use audience::Audience;
 pub use column::{Column, copies_of, copy_of};
 pub use counts::{EntryCounts, TableCounts, counts_fit};
 pub use key::Key;
-pub use number::Number;
+pub use number::{Number, are_same, has_number};
+pub use number_set::NumberSet;
 pub use of::Of;
 pub use row_search::{row_at, sums_at};
+pub use schema::Schema;
 pub use span_event::{ArgValue, Text};
 pub use span_ledger::Ledger;
 pub use span_names::HashKeys;

@@ -1,6 +1,6 @@
 //! The numbers of a row.
-ghost use Rattle.std.specs.Prelude.{◌≡◌};
-ghost use Rattle.span_table.specs.Numbers.{is_time, number_name, number_named, number_width};
+ghost use Rattle.std.specs.{List.find, Prelude.{◌≡◌}, Str.bytes_eq};
+ghost use Rattle.span_table.specs.Numbers.{are_same, async_numbers, has_number, is_time, number_name, number_named, number_width};
 
 /// A number of a row. Times are ticks, microseconds or nanoseconds; the others are counts.
 #[derive(Clone, Copy, Debug, PartialEq, Eq)]
@@ -9,6 +9,10 @@ pub enum Number {
     Total,
     /// How many spans there are.
     Count,
+    /// The greatest length.
+    Longest,
+    /// The lengths of outer spans: of those that no closed span of their thread with their name holds.
+    Outer,
     /// How many asynchronous spans are closed.
     Closed,
     Open,
@@ -24,10 +28,9 @@ impl Number {
             "self" => Some(Number::SelfTime),
             "total" => Some(Number::Total),
             "count" => Some(Number::Count),
-            "closed" => Some(Number::Closed),
-            "open" => Some(Number::Open),
-            "points" => Some(Number::Points),
-            _ => None,
+            "longest" => Some(Number::Longest),
+            "outer" => Some(Number::Outer),
+            _ => async_named(name),
         }
     }
 
@@ -39,6 +42,8 @@ impl Number {
             Number::SelfTime => "self",
             Number::Total => "total",
             Number::Count => "count",
+            Number::Longest => "longest",
+            Number::Outer => "outer",
             Number::Closed => "closed",
             Number::Open => "open",
             Number::Points => "points",
@@ -49,7 +54,10 @@ impl Number {
     pub fn is_time(self) -> bool
         ensures { result ≡ is_time self }
     {
-        matches!(self, Number::SelfTime | Number::Total)
+        matches!(
+            self,
+            Number::SelfTime | Number::Total | Number::Longest | Number::Outer
+        )
     }
 
     /// How wide its column is at least.
@@ -58,4 +66,36 @@ impl Number {
     {
         if self.is_time() { 16 } else { 8 }
     }
+}
+
+// The number of this name that only asynchronous spans have.
+fn async_named(name: &str) -> Option<Number>
+    ensures { result ≡ find (λ number. bytes_eq (number_name number) name.now) async_numbers }
+{
+    match name {
+        "closed" => Some(Number::Closed),
+        "open" => Some(Number::Open),
+        "points" => Some(Number::Points),
+        _ => None,
+    }
+}
+
+/// Whether the number is one of these.
+pub fn has_number(numbers: &[Number], number: Number) -> bool
+    ensures { result ≡ has_number numbers.now number }
+{
+    numbers.iter().any(|other| other.name() == number.name())
+}
+
+/// Whether both are the same numbers in the same order.
+pub fn are_same(numbers: &[Number], others: &[Number]) -> bool
+    ensures { result ≡ are_same numbers.now others.now }
+{
+    let Some((number, numbers)) = numbers.split_first() else {
+        return others.is_empty();
+    };
+    let Some((other, others)) = others.split_first() else {
+        return false;
+    };
+    number.name() == other.name() && are_same(numbers, others)
 }

@@ -1,32 +1,38 @@
 //! What spans come to together.
-ghost use Rattle.std.specs.Prelude.{◌≡◌, [], IfOk};
-ghost use Rattle.span_table.specs.{Collected.{sums_of_row, with_sums}, Numbers.{number_by, with_number}, Sums.{fit, same_sums}, Tables.{sums_of_async, sums_together}};
+ghost use Rattle.std.specs.Prelude.{◌≡◌, IfOk};
+ghost use Rattle.span_table.specs.{Collected.sums_of_row, Numbers.{number_by, only_in, with_number}, Sums.{fit, no_sums, same_sums, with_sums}, Tables.{sums_of_async, sums_of_span}};
 
 use crate::number::Number;
+use crate::number_set::NumberSet;
 use crate::wide::{is_narrow, plus};
 use span_journal::SpanRow;
 use span_keyed_tracks::AsyncRow;
 use std::alloc::AllocError;
 
-/// How many closed spans, their lengths, and their self times together; and of asynchronous spans how many are open, and how many
-/// points there are. These have no self time. Times are ticks: microseconds or nanoseconds, as the runs count.
+/// The numbers of a row: how many closed spans, their lengths and self times together, the greatest length, and the lengths of outer
+/// spans; of asynchronous spans how many are open, and how many points there are, but no self time and no outer ones. Times are ticks:
+/// microseconds or nanoseconds, as the runs count.
 #[derive(Clone, Copy)]
 pub struct Sums {
     pub count: u128,
     pub total: u128,
     pub self_time: u128,
+    pub longest: u128,
+    pub outer: u128,
     pub unclosed: u128,
     pub points: u128,
 }
 
 impl Sums {
     pub fn of_none() -> Sums
-        ensures { result ≡ sums_together [] }
+        ensures { result ≡ no_sums }
     {
         Sums {
             count: 0,
             total: 0,
             self_time: 0,
+            longest: 0,
+            outer: 0,
             unclosed: 0,
             points: 0,
         }
@@ -39,38 +45,38 @@ impl Sums {
             count: u128::from(row.count),
             total: row.total,
             self_time: u128::from(row.self_time),
+            longest: 0,
+            outer: 0,
             unclosed: 0,
             points: 0,
         }
     }
 
-    pub(crate) fn of_async(row: &AsyncRow) -> Sums
-        ensures { result ≡ sums_of_async row.now }
+    pub(crate) fn of_async(row: &AsyncRow, longest: u64) -> Sums
+        ensures { result ≡ sums_of_async row.now longest }
     {
         let totals = &row.totals;
         Sums {
             count: u128::from(totals.closed),
             total: totals.total,
             self_time: 0,
+            longest: u128::from(longest),
+            outer: 0,
             unclosed: u128::from(totals.unclosed),
             points: u128::from(totals.points),
         }
     }
 
-    /// Of one span of this length and self time.
-    pub(crate) fn of_span(length: u64, self_time: u64) -> Sums
-        ensures { result ≡ record {
-          count = 1;
-          total = length;
-          self_time = self_time;
-          unclosed = 0;
-          points = 0;
-        } }
+    /// Of one span of this length and self time, which is outer or isn't.
+    pub(crate) fn of_span(length: u64, self_time: u64, outer: bool) -> Sums
+        ensures { result ≡ sums_of_span length self_time outer }
     {
         Sums {
             count: 1,
             total: u128::from(length),
             self_time: u128::from(self_time),
+            longest: u128::from(length),
+            outer: if outer { u128::from(length) } else { 0 },
             unclosed: 0,
             points: 0,
         }
@@ -84,6 +90,8 @@ impl Sums {
             count: plus(self.count, more.count)?,
             total: plus(self.total, more.total)?,
             self_time: plus(self.self_time, more.self_time)?,
+            longest: self.longest.max(more.longest),
+            outer: plus(self.outer, more.outer)?,
             unclosed: plus(self.unclosed, more.unclosed)?,
             points: plus(self.points, more.points)?,
         })
@@ -97,6 +105,8 @@ impl Sums {
             Number::SelfTime => self.self_time,
             Number::Total => self.total,
             Number::Count | Number::Closed => self.count,
+            Number::Longest => self.longest,
+            Number::Outer => self.outer,
             Number::Open => self.unclosed,
             Number::Points => self.points,
         }
@@ -110,8 +120,25 @@ impl Sums {
             Number::SelfTime => self.self_time = value,
             Number::Total => self.total = value,
             Number::Count | Number::Closed => self.count = value,
+            Number::Longest => self.longest = value,
+            Number::Outer => self.outer = value,
             Number::Open => self.unclosed = value,
             Number::Points => self.points = value,
+        }
+    }
+
+    /// The numbers of a set alone; the others are 0.
+    pub fn only(&self, set: NumberSet) -> Sums
+        ensures { result ≡ only_in set self.now }
+    {
+        Sums {
+            count: if set.count { self.count } else { 0 },
+            total: if set.total { self.total } else { 0 },
+            self_time: if set.self_time { self.self_time } else { 0 },
+            longest: if set.longest { self.longest } else { 0 },
+            outer: if set.outer { self.outer } else { 0 },
+            unclosed: if set.unclosed { self.unclosed } else { 0 },
+            points: if set.points { self.points } else { 0 },
         }
     }
 
@@ -122,6 +149,8 @@ impl Sums {
         self.self_time == other.self_time
             && self.total == other.total
             && self.count == other.count
+            && self.longest == other.longest
+            && self.outer == other.outer
             && self.unclosed == other.unclosed
             && self.points == other.points
     }
@@ -134,6 +163,8 @@ pub fn fits(sums: &Sums) -> bool
     is_narrow(sums.count)
         && is_narrow(sums.total)
         && is_narrow(sums.self_time)
+        && is_narrow(sums.longest)
+        && is_narrow(sums.outer)
         && is_narrow(sums.unclosed)
         && is_narrow(sums.points)
 }

@@ -2,11 +2,10 @@
 ghost use Rattle.std.specs.Prelude.{◌≡◌, ◌∷◌, [], option_copied, IfOk};
 ghost use Rattle.span_table.specs.{Columns.run_of, Tables.{RowsRise, table_of}};
 
-use crate::column::Column;
 use crate::counts::TableCounts;
 use crate::key::Key;
-use crate::of::Of;
 use crate::run::LedgerRun;
+use crate::schema::Schema;
 use crate::sums::Sums;
 use crate::table_sum::TableSum;
 use span_event::Text;
@@ -25,8 +24,7 @@ pub struct Row {
 /// Spans summed by columns: a row for each key that a span has, in ascending order of keys.
 #[derive(Drop)]
 pub struct Table {
-    pub(crate) of: Of,
-    pub(crate) columns: Vec<Column>,
+    pub(crate) schema: Schema,
     pub(crate) counts: TableCounts,
     pub(crate) rows: Vec<Row>,
 }
@@ -36,25 +34,24 @@ impl Model for Table {
 
     ghost Value = { SpanTable };
 
-    ghost view = { λ t. record { of = t.of; columns = t.columns.items; counts = t.counts; rows = t.rows.items } };
+    ghost view = { λ t. record { schema = t.schema; counts = t.counts; rows = t.rows.items } };
 
     ghost invariant = { λ t. RowsRise t.rows.items };
 }
 
 impl Table {
-    /// The table of what one run has to sum, by these columns: that of a ledger of so many files, of which so many were refused as a
-    /// whole, with the name of its file if it has just one that has a name. Maps that a file fills are hashed by these keys.
+    /// The table of one run: that of a ledger of so many files, of which so many were refused as a whole, with the name of its file if
+    /// it has just one that has a name. Maps that a file fills are hashed by these keys.
     pub fn of(
         alloc: Global,
         keys: HashKeys,
-        of: Of,
-        columns: &[Column],
+        schema: Schema,
         ledger: &Ledger,
         files: u64,
         unread: u64,
         file: Option<&Text>,
     ) -> Result<Table, AllocError>
-        ensures { IfOk result (λ table. table ≡ table_of of columns.now
+        ensures { IfOk result (λ table. table ≡ table_of schema
             (run_of ledger.now.journal files unread (option_copied file.entry) ∷ [])) }
     {
         let run = LedgerRun {
@@ -63,21 +60,15 @@ impl Table {
             unread,
             file,
         };
-        let sum = TableSum::new(alloc, keys, of, columns)?;
-        sum.with_run(&run)?.into_table()
+        TableSum::new(alloc, keys, schema)
+            .with_run(&run)?
+            .into_table()
     }
 
-    /// What the table sums.
-    pub fn kind(&self) -> Of
-        ensures { result ≡ self.now.of }
+    pub fn schema(&self) -> &Schema
+        ensures { result.now ≡ self.now.schema }
     {
-        self.of
-    }
-
-    pub fn columns(&self) -> &[Column]
-        ensures { result.now ≡ self.now.columns }
-    {
-        &self.columns
+        &self.schema
     }
 
     pub fn counts(&self) -> TableCounts

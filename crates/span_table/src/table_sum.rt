@@ -3,12 +3,12 @@ ghost use Rattle.std.specs.Prelude.{◌≡◌, ◌+◌, ◌<◌, ◌≤◌, ◌^
 ghost use Rattle.span_table.specs.{Adding.{JoinsRuns, TakesRuns, add_tables, with_counts, with_row, with_run}, Columns.run_of, Kept.rows_with, Tables.{RowsRise, table_of}, declared.table_sum.SumFault.TheVariants.TooMany};
 
 use crate::collected::RunColumns;
-use crate::column::{Column, copies_of};
 use crate::counts::TableCounts;
 use crate::groups::Groups;
 use crate::merging::merged;
-use crate::of::Of;
+use crate::number_set::NumberSet;
 use crate::run::LedgerRun;
+use crate::schema::Schema;
 use crate::table::{Row, Table};
 use span_event::Text;
 use span_ledger::Ledger;
@@ -39,12 +39,11 @@ impl From<AllocError> for SumFault {
     }
 }
 
-/// The table of the parts so far, which are runs, or tables of the same by the same columns. What is added costs a look-up for each of
+/// The table of the parts so far, which are runs, or tables of the same schema. What is added costs a look-up for each of
 /// its rows, however many there were before.
 #[derive(Drop)]
 pub struct TableSum {
-    of: Of,
-    columns: Vec<Column>,
+    schema: Schema,
     counts: TableCounts,
     // Rows in order, and what was added to them since.
     rows: Vec<Row>,
@@ -57,36 +56,30 @@ impl Model for TableSum {
 
     ghost Value = { SummedTable };
 
-    ghost view = { λ s. record { parts = s.parts; table = record { of = s.of; columns = s.columns.items; counts = s.counts; rows = rows_with s.rows.items s.groups } } };
+    ghost view = { λ s. record { parts = s.parts; table = record { schema = s.schema; counts = s.counts; rows = rows_with s.rows.items s.groups } } };
 
     ghost invariant = { λ s. IsSummed s.parts s.rows.items s.groups };
 }
 
 impl TableSum {
-    /// The table of no parts, of what they sum, by these columns. Maps that files fill are hashed by these keys.
-    pub fn new(
-        alloc: Global,
-        keys: HashKeys,
-        of: Of,
-        columns: &[Column],
-    ) -> Result<TableSum, AllocError>
-        ensures table { IfOk result (λ sum. sum.table ≡ table_of of columns.now []) }
-        ensures parts { IfOk result (λ sum. sum.parts ≡ 0) }
+    /// The table of no parts. Maps that files fill are hashed by these keys. Takes no memory.
+    pub fn new(alloc: Global, keys: HashKeys, schema: Schema) -> TableSum
+        ensures table { result.table ≡ table_of schema [] }
+        ensures parts { result.parts ≡ 0 }
     {
-        Ok(TableSum {
-            of,
-            columns: copies_of(alloc, columns)?,
+        TableSum {
+            schema,
             counts: TableCounts::of_none(),
             rows: Vec::new(alloc),
             groups: Groups::new(alloc, keys),
             parts: 0,
-        })
+        }
     }
 
-    pub fn columns(&self) -> &[Column]
-        ensures { result.now ≡ self.now.table.columns }
+    pub fn schema(&self) -> &Schema
+        ensures { result.now ≡ self.now.table.schema }
     {
-        &self.columns
+        &self.schema
     }
 
     /// With a run: that of a ledger of so many files, of which so many were refused as a whole, with the name of its file if it has
@@ -126,12 +119,14 @@ impl TableSum {
     {
         let counts = self.counts.plus(&TableCounts::of(run))?;
         let mut groups = self.groups;
+        let schema = &self.schema;
         let by = RunColumns {
             alloc: *self.rows.allocator(),
             run,
-            columns: &self.columns,
+            schema,
+            set: NumberSet::of(&schema.numbers),
         };
-        by.add_to(&mut groups, self.of)?;
+        by.add_to(&mut groups)?;
         Ok(TableSum {
             counts,
             groups,
@@ -178,10 +173,10 @@ impl TableSum {
         })
     }
 
-    /// With the parts of another sum of the same by the same columns. Both are put in order, and it costs a comparison for each row.
+    /// With the parts of another sum of the same schema. Both are put in order, and it costs a comparison for each row.
     pub fn join(self, other: TableSum) -> Result<TableSum, SumFault>
         ensures added { IfOk result (λ sum. sum.table
-            ≡ add_tables self.table.of self.table.columns (self.table ∷ other.table ∷ [])) }
+            ≡ add_tables self.table.schema (self.table ∷ other.table ∷ [])) }
         ensures runs { IfOk result (JoinsRuns self other) }
         ensures parts { IfOk result (λ sum. sum.parts ≡ self.parts + other.parts) }
         ensures few { OnOk result (self.parts + other.parts < 2 ^ 32) }
@@ -208,8 +203,7 @@ impl TableSum {
         ensures { IfOk result (λ table. table ≡ self.table) }
     {
         Ok(Table {
-            of: self.of,
-            columns: self.columns,
+            schema: self.schema,
             counts: self.counts,
             rows: all_in_order(self.rows, self.groups)?,
         })

@@ -1,7 +1,9 @@
-use Rattle.std.proofs.Common.{sym, ◌∙◌}
-use Rattle.span_table.proofs.{ByName.row_sums-alike, Kept.Takes-alike}
+use Rattle.std.proofs.{Common.{sym, ◌∙◌}, lemmas.Bool.or_parts}
+use Rattle.span_table.proofs.{ByName.row_sums-only, Kept.Takes-alike}
 use Rattle.span_table.proofs.collected.RunColumns.add_closed.Goals as goal
 
 pub returns : goal.returns
 returns c =
-    Takes-alike c.add_rows.result c.args.groups.now c.add_rows.new.groups _ _ (row_sums-alike c.args.self.now.columns.now c.args.self.now.run.now (sym c.ask_spans.ensures ∙ c.if-ask_spans.false)) c.add_rows.ensures
+    let none = or_parts _ _ (sym c.asks_each_span.ensures ∙ c.if-asks_each_span.false) in
+    let numbers = or_parts _ _ none.1 in
+    Takes-alike c.add_rows.result c.args.groups.now c.add_rows.new.groups _ _ (row_sums-only c.args.self.now.schema.now.columns c.args.self.now.run.now none.0 c.args.self.now.set numbers.0 numbers.1) c.add_rows.ensures

@@ -1,9 +1,10 @@
-use Rattle.std.proofs.Common.{rules, ◌≡◌}
-use Rattle.span_table.specs.Tables.{sums_of}
+use Rattle.std.proofs.Common.{rules, ◌≡◌, ap, ◌∙◌}
+use Rattle.span_table.specs.{length_of, Numbers.only_in, Tables.sums_of_span}
 use Rattle.span_table.proofs.Summing.{taken-as}
 use Rattle.span_table.proofs.collected.RunColumns.add_span.Goals as goal
 
 pub returns : goal.returns
 returns c =
-    let sums : c.of_span-sums.result ≡ sums_of c.args.timed.now = search rules in
-    taken-as c.add.result c.in_ok-key.key _ c.of_span-sums.result _ c.args.groups.now c.add.new.self c.in_ok-key.ensures sums c.add.ensures.takes
+    let timed = c.args.timed.now in
+    let sums : c.of_span-sums.result ≡ sums_of_span (length_of timed.span) timed.self_time c.args.is_outer = search rules in
+    taken-as c.add.result c.in_ok-key.key _ c.only.result _ c.args.groups.now c.add.new.self c.in_ok-key.ensures (c.only.ensures ∙ ap (only_in c.args.self.now.set) sums) c.add.ensures.takes

@@ -13,5 +13,5 @@ returns-clause-added c =
     let own = c.self.inside in
     let row = c.args.row.now in
     let rows = rows_with-taken own.rows.items own.groups c.add_copy.new.self (keyed_row row ∷ []) c.self.invariant.kept_rise c.in_ok-add_copy.ensures.takes in
-    (λ i. record { of = own.of; columns = own.columns.items; counts = own.counts; rows = rows i })
+    (λ i. record { schema = own.schema; counts = own.counts; rows = rows i })
     ∙ ap (λ (sum : SummedTable). with_row sum.table row) c.self.view_is

@@ -15,5 +15,5 @@ pub returns : goal.returns
 returns c =
     let own = c.self.inside in
     let rows = ap₂ rows_with c.in_ok-rows.ensures.rows c.none_beside-groups.ensures ∙ rows_with-none (keyed_rows own.rows.items ++ keyed_rows (map row_of own.groups)) in
-    (λ i. record { parts = own.parts; table = record { of = own.of; columns = own.columns.items; counts = own.counts; rows = rows i } })
+    (λ i. record { parts = own.parts; table = record { schema = own.schema; counts = own.counts; rows = rows i } })
     ∙ c.self.view_is

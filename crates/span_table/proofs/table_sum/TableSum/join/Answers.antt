@@ -16,8 +16,8 @@ returns c =
     let two = c.other.inside in
     let rows = rows_with-joined (rows_with one.rows.items one.groups) (rows_with two.rows.items two.groups) c.in_ok-rows.rows.items c.in_ok-more.more.items c.in_ok-merged.field-0.items c.none_beside-groups.result
     c.in_ok-rows.ensures.rows c.in_ok-more.ensures.rows c.in_ok-merged.ensures.rows c.none_beside-groups.ensures in
-    let both : SummedTable = record { parts = one.parts + two.parts; table = record { of = one.of; columns = one.columns.items; counts = c.in_ok-plus.field-0; rows = rows_with c.in_ok-merged.field-0.items c.none_beside-groups.result } } in
-    let added = (λ i. record { of = one.of; columns = one.columns.items; counts = c.in_ok-plus.ensures i; rows = rows i })
-    ∙ ap₂ (λ (a b : SummedTable). add_tables a.table.of a.table.columns (a.table ∷ b.table ∷ [])) c.self.view_is c.other.view_is in
+    let both : SummedTable = record { parts = one.parts + two.parts; table = record { schema = one.schema; counts = c.in_ok-plus.field-0; rows = rows_with c.in_ok-merged.field-0.items c.none_beside-groups.result } } in
+    let added = (λ i. record { schema = one.schema; counts = c.in_ok-plus.ensures i; rows = rows i })
+    ∙ ap₂ (λ (a b : SummedTable). add_tables a.table.schema (a.table ∷ b.table ∷ [])) c.self.view_is c.other.view_is in
     let parts : one.parts + two.parts ≡ c.args.self.parts + c.args.other.parts = ap₂ (λ (a b : SummedTable). a.parts + b.parts) c.self.view_is c.other.view_is in
     record { added = added; runs = JoinsRuns-added c.args.self c.args.other both added parts; parts = parts; few = omega (arith, parts); too_many = tt }

@@ -1,5 +1,5 @@
 use Rattle.std.proofs.Common.{◌+◌, ◌<◌, ◌^◌, List, [], ◌∷◌, ap, subst, ◌∙◌, arith}
-use Rattle.span_table.specs.{Adding.{SummedTable, with_run}, Collected.Takes, Tables.{counts_together, run_sums}, declared.{column.Column.Column, counts.TableCounts.TableCounts}}
+use Rattle.span_table.specs.{Adding.{SummedTable, with_run}, Tables.{counts_together, schema_sums}, declared.counts.TableCounts.TableCounts}
 use Rattle.span_table.proofs.Kept.{IsSummed-taken, counts-run, rows_with-run}
 use Rattle.span_table.proofs.table_sum.TableSum.with_run.Goals as goal
 
@@ -16,8 +16,8 @@ returns-clause-added c =
     let own = c.self.inside in
     let new = c.add_to.new.groups in
     let run = c.args.run.now in
-    let takes = subst (λ (columns : List Column). Takes own.groups new (run_sums own.of columns run)) c.deref.ensures.value c.in_ok-add_to.ensures in
+    let takes = c.in_ok-add_to.ensures in
     let counts = c.in_ok-counts.ensures ∙ ap (λ (more : TableCounts). counts_together (own.counts ∷ more ∷ [])) c.of.ensures ∙ counts-run own.counts run in
-    let rows = rows_with-run own.rows.items own.groups new (run_sums own.of own.columns.items run) c.self.invariant.kept_rise takes in
-    (λ i. record { of = own.of; columns = own.columns.items; counts = counts i; rows = rows i })
+    let rows = rows_with-run own.rows.items own.groups new (schema_sums own.schema run) c.self.invariant.kept_rise takes in
+    (λ i. record { schema = own.schema; counts = counts i; rows = rows i })
     ∙ ap (λ (sum : SummedTable). with_run sum.table run) c.self.view_is
