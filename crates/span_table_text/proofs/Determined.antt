@@ -1,8 +1,9 @@
 -- Two tables that are printed alike are the same.
-use Rattle.std.proofs.{Common.{◌≡◌, ◌≢◌, ℕ, ◌^◌, ◌<◌, ◌==◌, cond, true, List, [], ◌∷◌, ◌++◌, All, drop, flat_map, get_or, length, map, refl, sym, ap, subst, ◌∙◌, Some, None, append_assoc, arith, codes}, lemmas.{Fmt.{decimal_injective, signed_decimal_injective}, List.Elements.{All-head, All-tail, All-weaker}}}
-use Rattle.json.specs.{Lex.tokens, Print.print, Token.{Token, end_array, end_object, key}}
+use Rattle.std.proofs.{Common.{◌≡◌, ◌≢◌, ℕ, ◌^◌, ◌<◌, ◌==◌, Bool, cond, false, true, List, [], ◌∷◌, ◌++◌, All, drop, flat_map, get_or, length, map, refl, sym, ap, subst, ◌∙◌, Some, None, append_assoc, arith, codes}, lemmas.{Fmt.{decimal_injective, signed_decimal_injective}, List.Elements.{All-head, All-tail, All-weaker}}}
+use Rattle.json.specs.{Lex.tokens, Print.print, Token.{Token, begin_array, end_array, end_object, key, string}}
 use Rattle.span_table.specs.Numbers.{with_number}
-use Rattle.span_table_text.specs.{ArgValue, Nil, Flag, Whole, Words, Other, Bytes, Unit, Microseconds, Nanoseconds, Column, Pid, Tid, Process, Thread, Name, File, Cat, Scope, Id, Argument, ParentName, ParentArgument, TableCounts, Number, Of, Spans, Async, Sums, Row, column_name, counts_fit, fit, number_by, numbers_of, only, TableKey, SpanTable, Json.{json_line, text_of}, Printed.{AllFit, AreDistinct, HasOwn, IsOfArgument, IsPart, IsPrint, IsRowOf, IsTable, PartsAreDetermined}, Tokens.{columns_tokens, head_tokens, key_tokens, name_tokens, numbers_tokens, of_tokens, row_tokens, sums_tokens, unit_tokens, value_tokens}}
+use Rattle.span_table.proofs.Only.{are_same-same, number_name-same, only-cons}
+use Rattle.span_table_text.specs.{ArgValue, Nil, Flag, Whole, Words, Other, Bytes, Unit, Microseconds, Nanoseconds, Column, Pid, Tid, Process, Thread, Name, File, Cat, Scope, Id, Argument, ParentName, ParentArgument, TableCounts, Number, SelfTime, Total, Count, Longest, Outer, Closed, Open, Points, Of, Programs, Spans, Async, Sums, Row, are_same, column_name, counts_fit, fit, number_by, number_name, only, usual_numbers, Schema, TableKey, SpanTable, Json.{json_line, text_of}, Printed.{AllFit, AreDistinct, HasOwn, IsOfArgument, IsPart, IsPrint, IsRowOf, IsTable, PartsAreDetermined}, Tokens.{columns_tokens, head_tokens, key_tokens, list_tokens, name_tokens, numbers_tokens, of_tokens, row_tokens, sums_tokens, unit_tokens, value_tokens}}
 use Rattle.span_table_text.proofs.PrintedLines.{AreSmall, IsDetermined, IsDeterminedKey, IsLine, IsRowOf-determined, counts_small, json_head-print, json_line-print, number_by-small, numbers_fit-each, print_head-IsLine, print_row-IsLine, tokens-head, tokens-row}
 
 -- two texts are the same if their first lines are, and what follows these
@@ -45,19 +46,20 @@ column_called-name (ParentArgument name) = refl
 pub column_name-injective : (column other : Column) → column_name column ≡ column_name other → column ≡ other
 column_name-injective column other e = sym (column_called-name column) ∙ ap column_called e ∙ column_called-name other
 
--- how the first number of a row is called
-abbrev pub first_number : Of → Bytes
-first_number Spans = codes "count"
-first_number Async = codes "closed"
-
--- no column is called so: it would be the category's
-pub column_name-not_first_number : (of : Of) (column : Column) → column_name column ≢ first_number of
+-- no column is called as a number is: it would be another's
+pub column_name-not_number : (number : Number) (column : Column) → column_name column ≢ number_name number
 unfolding column_called
-column_name-not_first_number of column e = by of (sym (ap column_name (sym (column_called-name column) ∙ ap column_called e)) ∙ e)
+column_name-not_number number column e = by number (sym (ap column_name (sym (column_called-name column) ∙ ap column_called e)) ∙ e)
   where
-    by : (of : Of) → column_name (column_called (first_number of)) ≡ first_number of → ⊥
-    by Spans same = omega (arith, ap length same)
-    by Async same = omega (arith, ap length same)
+    by : (number : Number) → column_name (column_called (number_name number)) ≡ number_name number → ⊥
+    by SelfTime same = omega (arith, ap length same)
+    by Total same = omega (arith, ap length same)
+    by Count same = omega (arith, ap length same)
+    by Longest same = omega (arith, ap length same)
+    by Outer same = omega (arith, ap length same)
+    by Closed same = omega (arith, ap length same)
+    by Open same = omega (arith, ap length same)
+    by Points same = omega (arith, ap length same)
 
 names-determined : (columns others : List Column) (ts us : List Token) → name_tokens columns ++ end_array ∷ ts ≡ name_tokens others ++ end_array ∷ us → (columns ≡ others) × (ts ≡ us)
 names-determined [] [] ts us e = (refl, ap (drop 1) e)
@@ -86,23 +88,23 @@ missing-determined first (column ∷ columns) (None ∷ values) name ts us h k e
 missing-determined first (column ∷ columns) (Some value ∷ values) name ts us h k e =
     All-head (λ other. name ≢ other) (column_name column) (map column_name columns) h (let same : name ≡ column_name column = cc e in same)
 
-key-determined : (of : Of) (columns : List Column) (values others : TableKey) (ts us : List Token) → AreDistinct (map column_name columns) → IsDeterminedKey columns values → IsDeterminedKey columns others
-    → key_tokens columns values ++ key (first_number of) ∷ ts ≡ key_tokens columns others ++ key (first_number of) ∷ us → (values ≡ others) × (ts ≡ us)
-key-determined of [] [] [] ts us d h k e = (refl, ap (drop 1) e)
-key-determined of [] [] (other ∷ others) ts us d h k e = absurd (omega (arith, k.0))
-key-determined of [] (value ∷ values) others ts us d h k e = absurd (omega (arith, h.0))
-key-determined of (column ∷ columns) [] others ts us d h k e = absurd (omega (arith, h.0))
-key-determined of (column ∷ columns) (value ∷ values) [] ts us d h k e = absurd (omega (arith, k.0))
-key-determined of (column ∷ columns) (None ∷ values) (None ∷ others) ts us d h k e =
-    let rest = key-determined of columns values others ts us d.1 (omega (arith, h.0), h.1.1) (omega (arith, k.0), k.1.1) e in
+key-determined : (first : Number) (columns : List Column) (values others : TableKey) (ts us : List Token) → AreDistinct (map column_name columns) → IsDeterminedKey columns values → IsDeterminedKey columns others
+    → key_tokens columns values ++ key (number_name first) ∷ ts ≡ key_tokens columns others ++ key (number_name first) ∷ us → (values ≡ others) × (ts ≡ us)
+key-determined first [] [] [] ts us d h k e = (refl, ap (drop 1) e)
+key-determined first [] [] (other ∷ others) ts us d h k e = absurd (omega (arith, k.0))
+key-determined first [] (value ∷ values) others ts us d h k e = absurd (omega (arith, h.0))
+key-determined first (column ∷ columns) [] others ts us d h k e = absurd (omega (arith, h.0))
+key-determined first (column ∷ columns) (value ∷ values) [] ts us d h k e = absurd (omega (arith, k.0))
+key-determined first (column ∷ columns) (None ∷ values) (None ∷ others) ts us d h k e =
+    let rest = key-determined first columns values others ts us d.1 (omega (arith, h.0), h.1.1) (omega (arith, k.0), k.1.1) e in
     (λ i. None ∷ rest.0 i, rest.1)
-key-determined of (column ∷ columns) (None ∷ values) (Some second ∷ others) ts us d h k e = absurd (missing-determined (first_number of) columns values (column_name column) ts _ d.0 (column_name-not_first_number of column) e)
-key-determined of (column ∷ columns) (Some value ∷ values) (None ∷ others) ts us d h k e = absurd (missing-determined (first_number of) columns others (column_name column) us _ d.0 (column_name-not_first_number of column) (sym e))
-key-determined of (column ∷ columns) (Some value ∷ values) (Some second ∷ others) ts us d h k e =
-    let there = append_assoc (value_tokens value) (key_tokens columns values) (key (first_number of) ∷ ts) in
-    let back = append_assoc (value_tokens second) (key_tokens columns others) (key (first_number of) ∷ us) in
-    let same = value-determined value second (key_tokens columns values ++ key (first_number of) ∷ ts) (key_tokens columns others ++ key (first_number of) ∷ us) h.1.0 k.1.0 (sym there ∙ ap (drop 1) e ∙ back) in
-    let rest = key-determined of columns values others ts us d.1 (omega (arith, h.0), h.1.1) (omega (arith, k.0), k.1.1) same.1 in
+key-determined first (column ∷ columns) (None ∷ values) (Some second ∷ others) ts us d h k e = absurd (missing-determined (number_name first) columns values (column_name column) ts _ d.0 (column_name-not_number first column) e)
+key-determined first (column ∷ columns) (Some value ∷ values) (None ∷ others) ts us d h k e = absurd (missing-determined (number_name first) columns others (column_name column) us _ d.0 (column_name-not_number first column) (sym e))
+key-determined first (column ∷ columns) (Some value ∷ values) (Some second ∷ others) ts us d h k e =
+    let there = append_assoc (value_tokens value) (key_tokens columns values) (key (number_name first) ∷ ts) in
+    let back = append_assoc (value_tokens second) (key_tokens columns others) (key (number_name first) ∷ us) in
+    let same = value-determined value second (key_tokens columns values ++ key (number_name first) ∷ ts) (key_tokens columns others ++ key (number_name first) ∷ us) h.1.0 k.1.0 (sym there ∙ ap (drop 1) e ∙ back) in
+    let rest = key-determined first columns values others ts us d.1 (omega (arith, h.0), h.1.1) (omega (arith, k.0), k.1.1) same.1 in
     (λ i. Some (same.0 i) ∷ rest.0 i, rest.1)
 
 -- numbers that are printed alike are the same
@@ -112,52 +114,50 @@ only-determined [] sums others ts us h k e = refl
 only-determined (number ∷ numbers) sums others ts us h k e =
     let value : number_by number sums ≡ number_by number others = decimal_injective _ _ (number_by-small number sums h) (number_by-small number others k) (cc e) in
     let rest = only-determined numbers sums others ts us h k (ap (drop 2) e) in
-    λ i. with_number number (value i) (rest i)
+    sym (only-cons number numbers sums) ∙ (λ i. with_number number (value i) (rest i)) ∙ only-cons number numbers others
 
--- the numbers of a row behind the name of the first
-later_numbers : Of → Sums → List Token
-later_numbers of sums = drop 1 (sums_tokens (numbers_of of) sums ++ end_object ∷ [])
+row-determined : (schema : Schema) (row other : Row) → 0 < length schema.numbers → AreDistinct (map column_name schema.columns) → IsDetermined schema row → IsDetermined schema other
+    → row_tokens schema row ≡ row_tokens schema other → row ≡ other
+row-determined schema row other some d h k e = by schema.numbers refl
+  where
+    tail : List Number → Sums → List Token
+    tail numbers sums = sums_tokens numbers sums ++ end_object ∷ []
 
-sums-first : (of : Of) (sums : Sums) → sums_tokens (numbers_of of) sums ++ end_object ∷ [] ≡ key (first_number of) ∷ later_numbers of sums
-unfolding later_numbers
-sums-first Spans sums = refl
-sums-first Async sums = refl
-
-row-determined : (of : Of) (columns : List Column) (row other : Row) → AreDistinct (map column_name columns) → IsDetermined of columns row → IsDetermined of columns other
-    → row_tokens of columns row ≡ row_tokens of columns other → row ≡ other
-row-determined of columns row other d h k e =
-    let mine = ap (λ l. key_tokens columns row.key ++ l) (sums-first of row.sums) in
-    let its = ap (λ l. key_tokens columns other.key ++ l) (sums-first of other.sums) in
-    let same = key-determined of columns row.key other.key (later_numbers of row.sums) (later_numbers of other.sums) d h.key k.key (sym mine ∙ ap (drop 1) e ∙ its) in
-    let sums = h.own ∙ only-determined (numbers_of of) row.sums other.sums (end_object ∷ []) (end_object ∷ []) h.sums k.sums (sums-first of row.sums ∙ ap (λ l. key (first_number of) ∷ l) same.1 ∙ sym (sums-first of other.sums)) ∙ sym k.own in
-    λ i. record { key = same.0 i; sums = sums i }
+    by : (numbers : List Number) → schema.numbers ≡ numbers → row ≡ other
+    by [] is = absurd (omega (arith, some, ap length is))
+    by (first ∷ later) is =
+        let mine = ap (λ l. key_tokens schema.columns row.key ++ tail l row.sums) is in
+        let its = ap (λ l. key_tokens schema.columns other.key ++ tail l other.sums) is in
+        let same = key-determined first schema.columns row.key other.key (drop 1 (tail (first ∷ later) row.sums)) (drop 1 (tail (first ∷ later) other.sums)) d h.key k.key (sym mine ∙ ap (drop 1) e ∙ its) in
+        let alike = only-determined (first ∷ later) row.sums other.sums (end_object ∷ []) (end_object ∷ []) h.sums k.sums (ap (λ l. key (number_name first) ∷ l) same.1) in
+        let sums = h.own ∙ ap (λ l. only l row.sums) is ∙ alike ∙ sym (ap (λ l. only l other.sums) is) ∙ sym k.own in
+        λ i. record { key = same.0 i; sums = sums i }
 
 -- a line of a row, and what follows it
-row-first : (of : Of) (columns : List Column) (row : Row) (rest : Bytes) → json_line of columns row ++ rest ≡ print (row_tokens of columns row) ++ 10 ∷ rest
-row-first of columns row rest = ap (λ l. l ++ rest) (json_line-print of columns row) ∙ append_assoc (print (row_tokens of columns row)) (10 ∷ []) rest
+row-first : (schema : Schema) (row : Row) (rest : Bytes) → json_line schema row ++ rest ≡ print (row_tokens schema row) ++ 10 ∷ rest
+row-first schema row rest = ap (λ l. l ++ rest) (json_line-print schema row) ∙ append_assoc (print (row_tokens schema row)) (10 ∷ []) rest
 
-rows-determined : (of : Of) (columns : List Column) (rows others : List Row) → AreDistinct (map column_name columns) → All (IsDetermined of columns) rows → All (IsDetermined of columns) others → length rows ≡ length others
-    → flat_map (json_line of columns) rows ≡ flat_map (json_line of columns) others → rows ≡ others
-rows-determined of columns [] [] d h k l e = refl
-rows-determined of columns [] (other ∷ others) d h k l e = absurd (omega arith)
-rows-determined of columns (row ∷ rows) [] d h k l e = absurd (omega arith)
-rows-determined of columns (row ∷ rows) (other ∷ others) d h k l e =
-    let is = All-head (IsDetermined of columns) row rows h in
-    let its = All-head (IsDetermined of columns) other others k in
-    let more = flat_map (json_line of columns) rows in
-    let rest = flat_map (json_line of columns) others in
-    let lines = line-determined (print (row_tokens of columns row)) (print (row_tokens of columns other)) more rest (print_row-IsLine of columns row is) (print_row-IsLine of columns other its)
-    (sym (row-first of columns row more) ∙ e ∙ row-first of columns other rest) in
-    let same = row-determined of columns row other d is its (sym (tokens-row of columns row is) ∙ ap tokens lines.0 ∙ tokens-row of columns other its) in
-    let all = rows-determined of columns rows others d (All-tail (IsDetermined of columns) row rows h) (All-tail (IsDetermined of columns) other others k) (omega arith) lines.1 in
+rows-determined : (schema : Schema) (rows others : List Row) → 0 < length schema.numbers → AreDistinct (map column_name schema.columns) → All (IsDetermined schema) rows → All (IsDetermined schema) others → length rows ≡ length others
+    → flat_map (json_line schema) rows ≡ flat_map (json_line schema) others → rows ≡ others
+rows-determined schema [] [] some d h k l e = refl
+rows-determined schema [] (other ∷ others) some d h k l e = absurd (omega arith)
+rows-determined schema (row ∷ rows) [] some d h k l e = absurd (omega arith)
+rows-determined schema (row ∷ rows) (other ∷ others) some d h k l e =
+    let is = All-head (IsDetermined schema) row rows h in
+    let its = All-head (IsDetermined schema) other others k in
+    let more = flat_map (json_line schema) rows in
+    let rest = flat_map (json_line schema) others in
+    let lines = line-determined (print (row_tokens schema row)) (print (row_tokens schema other)) more rest (print_row-IsLine schema row is) (print_row-IsLine schema other its)
+    (sym (row-first schema row more) ∙ e ∙ row-first schema other rest) in
+    let same = row-determined schema row other some d is its (sym (tokens-row schema row is) ∙ ap tokens lines.0 ∙ tokens-row schema other its) in
+    let all = rows-determined schema rows others some d (All-tail (IsDetermined schema) row rows h) (All-tail (IsDetermined schema) other others k) (omega arith) lines.1 in
     λ i. same i ∷ all i
 
--- rows of columns that are the same, of what is the same
-rows-with : (of second : Of) (columns more : List Column) (rows others : List Row) → of ≡ second → columns ≡ more → AreDistinct (map column_name columns) → All (IsDetermined of columns) rows
-    → All (IsDetermined second more) others → length rows ≡ length others → flat_map (json_line of columns) rows ≡ flat_map (json_line second more) others → rows ≡ others
-rows-with of second columns more rows others o p d h k l e =
-    let its = subst (λ c. All (IsDetermined of c) others) (sym p) (subst (λ s. All (IsDetermined s more) others) (sym o) k) in
-    rows-determined of columns rows others d h its l (e ∙ (λ i. flat_map (json_line (sym o i) (sym p i)) others))
+-- rows of tables of the same schema
+rows-with : (one second : Schema) (rows others : List Row) → one ≡ second → 0 < length one.numbers → AreDistinct (map column_name one.columns) → All (IsDetermined one) rows
+    → All (IsDetermined second) others → length rows ≡ length others → flat_map (json_line one) rows ≡ flat_map (json_line second) others → rows ≡ others
+rows-with one second rows others same some d h k l e =
+    rows-determined one rows others some d h (subst (λ s. All (IsDetermined s) others) (sym same) k) l (e ∙ (λ i. flat_map (json_line (sym same i)) others))
 
 numbers-determined : (rows more : ℕ) (counts other : TableCounts) → rows < 2 ^ 64 → more < 2 ^ 64 → AreSmall counts → AreSmall other
     → numbers_tokens rows counts ++ end_object ∷ [] ≡ numbers_tokens more other ++ end_object ∷ [] → (rows ≡ more) × (counts ≡ other)
@@ -195,48 +195,80 @@ unit-determined Microseconds Nanoseconds ts us e = let same : codes "columns" �
 unit-determined Nanoseconds Microseconds ts us e = let same : codes "unit" ≡ codes "columns" = cc e in absurd (omega (arith, ap (λ l. get_or l 0 0) same))
 unit-determined Nanoseconds Nanoseconds ts us e = (refl, ap (drop 3) e)
 
+-- names of numbers that are printed alike are of the same ones
+number_names-determined : (numbers others : List Number) (ts us : List Token) → map string (map number_name numbers) ++ end_array ∷ ts ≡ map string (map number_name others) ++ end_array ∷ us → (numbers ≡ others) × (ts ≡ us)
+number_names-determined [] [] ts us e = (refl, ap (drop 1) e)
+number_names-determined [] (other ∷ others) ts us e = absurd (cc e)
+number_names-determined (number ∷ numbers) [] ts us e = absurd (cc e)
+number_names-determined (number ∷ numbers) (other ∷ others) ts us e =
+    let called : number_name number ≡ number_name other = cc e in
+    let same = number_name-same number other called in
+    let rest = number_names-determined numbers others ts us (ap (drop 1) e) in
+    (λ i. same i ∷ rest.0 i, rest.1)
+
+-- so are lists of numbers, before the number of rows, of the same kind of table
+list-determined : (one second : Schema) (ts us : List Token) → one.of ≡ second.of → list_tokens one (key (codes "rows") ∷ ts) ≡ list_tokens second (key (codes "rows") ∷ us) → (one.numbers ≡ second.numbers) × (ts ≡ us)
+list-determined one second ts us kind e = by (are_same one.numbers (usual_numbers Programs one.of)) (are_same second.numbers (usual_numbers Programs second.of)) refl refl e
+  where
+    listed : List Number → List Token → List Token
+    listed numbers rest = key (codes "numbers") ∷ begin_array ∷ (map string (map number_name numbers) ++ end_array ∷ rest)
+
+    by : (a b : Bool) → are_same one.numbers (usual_numbers Programs one.of) ≡ a → are_same second.numbers (usual_numbers Programs second.of) ≡ b →
+        cond a (key (codes "rows") ∷ ts) (listed one.numbers (key (codes "rows") ∷ ts)) ≡ cond b (key (codes "rows") ∷ us) (listed second.numbers (key (codes "rows") ∷ us)) → (one.numbers ≡ second.numbers) × (ts ≡ us)
+    by true true mine its e = (are_same-same one.numbers (usual_numbers Programs one.of) mine ∙ ap (usual_numbers Programs) kind ∙ sym (are_same-same second.numbers (usual_numbers Programs second.of) its), ap (drop 1) e)
+    by true false mine its e = let same : codes "rows" ≡ codes "numbers" = cc e in absurd (omega (arith, ap length same))
+    by false true mine its e = let same : codes "numbers" ≡ codes "rows" = cc e in absurd (omega (arith, ap length same))
+    by false false mine its e =
+        let both = number_names-determined one.numbers second.numbers (key (codes "rows") ∷ ts) (key (codes "rows") ∷ us) (ap (drop 2) e) in
+        (both.0, ap (drop 1) both.1)
+
 -- the first line, and what follows it
-head-first : (unit : Unit) (table : SpanTable) → text_of unit table ≡ print (head_tokens table.of unit table.columns (length table.rows) table.counts) ++ 10 ∷ flat_map (json_line table.of table.columns) table.rows
+head-first : (unit : Unit) (table : SpanTable) → text_of unit table ≡ print (head_tokens table.schema unit (length table.rows) table.counts) ++ 10 ∷ flat_map (json_line table.schema) table.rows
 head-first unit table =
-    let rest = flat_map (json_line table.of table.columns) table.rows in
-    ap (λ l. l ++ rest) (json_head-print table.of unit table.columns (length table.rows) table.counts)
-    ∙ append_assoc (print (head_tokens table.of unit table.columns (length table.rows) table.counts)) (10 ∷ []) rest
+    let rest = flat_map (json_line table.schema) table.rows in
+    ap (λ l. l ++ rest) (json_head-print table.schema unit (length table.rows) table.counts)
+    ∙ append_assoc (print (head_tokens table.schema unit (length table.rows) table.counts)) (10 ∷ []) rest
 
 -- a table that its text determines
 record IsDeterminedTable (table : SpanTable) : Type 0 where
   pub counts : counts_fit table.counts ≡ true
   pub few : length table.rows < 2 ^ 64
-  pub rows : All (IsDetermined table.of table.columns) table.rows
+  pub rows : All (IsDetermined table.schema) table.rows
 
-tables-determined : (unit second : Unit) (one other : SpanTable) → AreDistinct (map column_name one.columns) → IsDeterminedTable one → IsDeterminedTable other
+tables-determined : (unit second : Unit) (one other : SpanTable) → 0 < length one.schema.numbers → AreDistinct (map column_name one.schema.columns) → IsDeterminedTable one → IsDeterminedTable other
     → text_of unit one ≡ text_of second other → (unit ≡ second) × (one ≡ other)
-tables-determined unit second one other distinct is its e =
+tables-determined unit second one other some distinct is its e =
     let many = length one.rows in
     let more = length other.rows in
-    let lines = line-determined (print (head_tokens one.of unit one.columns many one.counts)) (print (head_tokens other.of second other.columns more other.counts))
-    (flat_map (json_line one.of one.columns) one.rows) (flat_map (json_line other.of other.columns) other.rows)
-    (print_head-IsLine one.of unit one.columns many one.counts is.few is.counts) (print_head-IsLine other.of second other.columns more other.counts its.few its.counts)
+    let mine = one.schema in
+    let theirs = other.schema in
+    let lines = line-determined (print (head_tokens mine unit many one.counts)) (print (head_tokens theirs second more other.counts)) (flat_map (json_line mine) one.rows) (flat_map (json_line theirs) other.rows)
+    (print_head-IsLine mine unit many one.counts is.few is.counts) (print_head-IsLine theirs second more other.counts its.few its.counts)
     (sym (head-first unit one) ∙ e ∙ head-first second other) in
-    let heads = sym (tokens-head one.of unit one.columns many one.counts is.few is.counts) ∙ ap tokens lines.0 ∙ tokens-head other.of second other.columns more other.counts its.few its.counts in
-    let mine = drop 1 (columns_tokens one.columns (numbers_tokens many one.counts ++ end_object ∷ [])) in
-    let theirs = drop 1 (columns_tokens other.columns (numbers_tokens more other.counts ++ end_object ∷ [])) in
-    let kinds = of-determined one.of other.of unit second mine theirs (ap (drop 3) heads) in
-    let units = unit-determined unit second mine theirs kinds.1 in
-    let columns = names-determined one.columns other.columns (numbers_tokens many one.counts ++ end_object ∷ []) (numbers_tokens more other.counts ++ end_object ∷ []) (ap (drop 1) units.1) in
-    let numbers = numbers-determined many more one.counts other.counts is.few its.few (counts_small one.counts is.counts) (counts_small other.counts its.counts) columns.1 in
-    let rows = rows-with one.of other.of one.columns other.columns one.rows other.rows kinds.0 columns.0 distinct is.rows its.rows numbers.0 lines.1 in
-    (units.0, λ i. record { of = kinds.0 i; columns = columns.0 i; counts = numbers.1 i; rows = rows i })
+    let heads = sym (tokens-head mine unit many one.counts is.few is.counts) ∙ ap tokens lines.0 ∙ tokens-head theirs second more other.counts its.few its.counts in
+    let its_numbers = numbers_tokens many one.counts ++ end_object ∷ [] in
+    let other_numbers = numbers_tokens more other.counts ++ end_object ∷ [] in
+    let its_columns = drop 1 (columns_tokens mine.columns (list_tokens mine its_numbers)) in
+    let other_columns = drop 1 (columns_tokens theirs.columns (list_tokens theirs other_numbers)) in
+    let kinds = of-determined mine.of theirs.of unit second its_columns other_columns (ap (drop 3) heads) in
+    let units = unit-determined unit second its_columns other_columns kinds.1 in
+    let columns = names-determined mine.columns theirs.columns (list_tokens mine its_numbers) (list_tokens theirs other_numbers) (ap (drop 1) units.1) in
+    let lists = list-determined mine theirs (drop 1 its_numbers) (drop 1 other_numbers) kinds.0 columns.1 in
+    let numbers = numbers-determined many more one.counts other.counts is.few its.few (counts_small one.counts is.counts) (counts_small other.counts its.counts) (ap (λ l. key (codes "rows") ∷ l) lists.1) in
+    let schemas : mine ≡ theirs = λ i. record { of = kinds.0 i; columns = columns.0 i; numbers = lists.0 i } in
+    let rows = rows-with mine theirs one.rows other.rows schemas some distinct is.rows its.rows numbers.0 lines.1 in
+    (units.0, λ i. record { schema = schemas i; counts = numbers.1 i; rows = rows i })
 
 IsTable-determined : (table : SpanTable) → IsTable table → IsDeterminedTable table
-IsTable-determined table is = record { counts = is.counts; few = is.few; rows = All-weaker (IsRowOf table.of table.columns) (IsDetermined table.of table.columns) (IsRowOf-determined table.of table.columns) table.rows is.rows }
+IsTable-determined table is = record { counts = is.counts; few = is.few; rows = All-weaker (IsRowOf table.schema) (IsDetermined table.schema) (IsRowOf-determined table.schema) table.rows is.rows }
 
 -- each key of the table has a value for each column
 abbrev pub HasWholeKeys : SpanTable → Type 0
-HasWholeKeys table = All (λ row. length row.key ≡ length table.columns) table.rows
+HasWholeKeys table = All (λ row. length row.key ≡ length table.schema.columns) table.rows
 
--- each row has no number that what is summed doesn't have
+-- each row has no number that the table doesn't have
 abbrev pub HasOwnNumbers : SpanTable → Type 0
-HasOwnNumbers table = All (λ row. HasOwn table.of row.sums) table.rows
+HasOwnNumbers table = All (λ row. HasOwn table.schema row.sums) table.rows
 
 AllFit-determined : (table : SpanTable) → AllFit table → HasWholeKeys table → HasOwnNumbers table → IsDeterminedTable table
 AllFit-determined table fits whole own =
@@ -246,9 +278,9 @@ AllFit-determined table fits whole own =
 -- a table that was read of the text that is printed of another is this one
 pub prints-determined : (unit second : Unit) (text : Bytes) (part table : SpanTable) → IsPart unit text part → IsPrint second text table → HasWholeKeys table → HasOwnNumbers table → (unit ≡ second) × (part ≡ table)
 prints-determined unit second text part table is print whole own =
-    tables-determined unit second part table is.is.columns.distinct (IsTable-determined part is.is) (AllFit-determined table print.fits whole own) (sym is.printed ∙ print.printed)
+    tables-determined unit second part table is.is.schema.numbers.some is.is.schema.columns.distinct (IsTable-determined part is.is) (AllFit-determined table print.fits whole own) (sym is.printed ∙ print.printed)
 
 -- a text is that of one table, in one unit
 pub parts-determined : PartsAreDetermined
 parts-determined unit second text one other is its =
-    tables-determined unit second one other is.is.columns.distinct (IsTable-determined one is.is) (IsTable-determined other its.is) (sym is.printed ∙ its.printed)
+    tables-determined unit second one other is.is.schema.numbers.some is.is.schema.columns.distinct (IsTable-determined one is.is) (IsTable-determined other its.is) (sym is.printed ∙ its.printed)

@@ -1,11 +1,10 @@
 -- The tokens of the lines of a table are read back, and no line feed stands in such a line.
 use Rattle.std.specs.{Char.digit_char, Fmt.signed_decimal, Int.w64, List.{AllByRecursion, list_all}, Prelude.⊤, Str.Parse.AllDigits}
-use Rattle.std.proofs.{Common.{◌≡◌, ◌≢◌, ℕ, ℤ, pos, negsuc, suc, ◌+◌, ◌/◌, ◌%◌, ◌^◌, ◌<◌, ◌≤◌, Bool, true, false, true≢false, cond, ◌&&◌, ◌||◌, ◌==◌, nat_lt, List, [], ◌∷◌, ◌++◌, All, length, refl, sym, ap, ◌∙◌, Some, None, arith, decimal, FitsSigned}, lemmas.{Bool.{and_parts, ltb-false, ltb-true}, Fmt.decimal_is_IsNumeral, List.{Elements.All-from_recursion, Sums.AllPass-from_list_all}, Str.Parse.digit_from_value}}
+use Rattle.std.proofs.{Common.{◌≡◌, ◌≢◌, ℕ, ℤ, pos, negsuc, suc, ◌+◌, ◌/◌, ◌%◌, ◌^◌, ◌<◌, ◌≤◌, Bool, true, false, true≢false, cond, ◌&&◌, ◌||◌, ◌==◌, nat_lt, List, [], ◌∷◌, ◌++◌, All, codes, length, map, refl, sym, ap, ◌∙◌, Some, None, arith, decimal, FitsSigned}, lemmas.{Bool.{and_parts, ltb-false, ltb-true}, Fmt.decimal_is_IsNumeral, List.{Elements.All-from_recursion, Sums.AllPass-from_list_all}, Str.Parse.digit_from_value}}
 use Rattle.json.specs.{Lex.tokens, Print.{ArePrintable, IsNumber, IsPrintable, begins, ends, escape, escape_byte, escape_letter, print, print_from, quoted, separator, token_text}, Token.{Token, begin_object, end_object, begin_array, end_array, key, string, number, boolean, null, bad}}
 use Rattle.json.proofs.Printed.{Decimals.{IsNumber-decimal, IsNumber-signed_decimal}, Tokens.tokens-print}
 use Rattle.span_table.proofs.Summing.{sums_small}
-use Rattle.span_table.specs.declared.number.Number.TheVariants.{Closed, Count, Open, Points, SelfTime, Total}
-use Rattle.span_table_text.specs.{ArgValue, Nil, Flag, Whole, Words, Other, Bytes, Unit, Microseconds, Nanoseconds, Column, Pid, Tid, Process, Thread, Name, File, Cat, Scope, Id, Argument, ParentName, ParentArgument, TableCounts, Number, Of, Spans, Async, Sums, Row, Value, counts_fit, fit, number_by, numbers_of, TableKey, SpanTable, Json.{json_head, json_line, numbers_fit}, Printed.{HasOwn, IsKeyOf, IsOfArgument, IsRowOf, KeyFits, MayHave}, Tokens.{columns_tokens, entry_counts_tokens, head_tokens, key_tokens, name_tokens, numbers_tokens, of_tokens, row_tokens, sums_tokens, unit_tokens, value_tokens}}
+use Rattle.span_table_text.specs.{ArgValue, Nil, Flag, Whole, Words, Other, Bytes, Unit, Microseconds, Nanoseconds, Column, Pid, Tid, Process, Thread, Name, File, Cat, Scope, Id, Argument, ParentName, ParentArgument, TableCounts, Number, SelfTime, Total, Count, Longest, Outer, Closed, Open, Points, Of, Programs, Spans, Async, Sums, Row, Value, are_same, counts_fit, fit, number_by, number_name, usual_numbers, Schema, TableKey, SpanTable, Json.{json_head, json_line, numbers_fit}, Printed.{HasOwn, IsKeyOf, IsOfArgument, IsRowOf, KeyFits, MayHave}, Tokens.{columns_tokens, entry_counts_tokens, head_tokens, key_tokens, list_tokens, name_tokens, numbers_tokens, of_tokens, row_tokens, sums_tokens, unit_tokens, value_tokens}}
 
 -- no line feed is among the bytes
 abbrev pub IsLine : Bytes → Type 0
@@ -140,8 +139,10 @@ number_by-small SelfTime sums h = (sums_small sums h).2
 number_by-small Total sums h = (sums_small sums h).1
 number_by-small Count sums h = (sums_small sums h).0
 number_by-small Closed sums h = (sums_small sums h).0
-number_by-small Open sums h = (sums_small sums h).3
-number_by-small Points sums h = (sums_small sums h).4
+number_by-small Longest sums h = (sums_small sums h).3
+number_by-small Outer sums h = (sums_small sums h).4
+number_by-small Open sums h = (sums_small sums h).5
+number_by-small Points sums h = (sums_small sums h).6
 
 sums-in_line : (numbers : List Number) (sums : Sums) → fit sums ≡ true → AreInLine (sums_tokens numbers sums)
 sums-in_line [] sums h = tt
@@ -229,14 +230,14 @@ IsKeyOf-determined (column ∷ columns) [] h = absurd h
 IsKeyOf-determined (column ∷ columns) (value ∷ values) h = let rest = IsKeyOf-determined columns values h.1 in (ap suc rest.0, (IsOfArgument-any column value h.0, rest.1))
 
 -- a row that its line determines
-pub record IsDetermined (of : Of) (columns : List Column) (row : Row) : Type 0 where
-  pub key : IsDeterminedKey columns row.key
-  pub own : HasOwn of row.sums
+pub record IsDetermined (schema : Schema) (row : Row) : Type 0 where
+  pub key : IsDeterminedKey schema.columns row.key
+  pub own : HasOwn schema row.sums
   pub sums : fit row.sums ≡ true
 
 -- so is each that a table may have
-pub IsRowOf-determined : (of : Of) (columns : List Column) (row : Row) → IsRowOf of columns row → IsDetermined of columns row
-IsRowOf-determined of columns row is = record { key = IsKeyOf-determined columns row.key is.key; own = is.own; sums = is.fits }
+pub IsRowOf-determined : (schema : Schema) (row : Row) → IsRowOf schema row → IsDetermined schema row
+IsRowOf-determined schema row is = record { key = IsKeyOf-determined schema.columns row.key is.key; own = is.own; sums = is.fits }
 
 value-in_line : (value : ArgValue) → IsOfArgument (Some value) → AreInLine (value_tokens value)
 value-in_line Nil h = (tt, tt)
@@ -251,11 +252,11 @@ key-in_line (column ∷ columns) [] h = tt
 key-in_line (column ∷ columns) (None ∷ values) h = key-in_line columns values h.1
 key-in_line (column ∷ columns) (Some value ∷ values) h = (tt, AreInLine-append (value_tokens value) _ (value-in_line value h.0) (key-in_line columns values h.1))
 
-row-in_line : (of : Of) (columns : List Column) (row : Row) → IsDetermined of columns row → AreInLine (row_tokens of columns row)
-row-in_line of columns row is =
-    let numbers = sums_tokens (numbers_of of) row.sums in
-    let sums = AreInLine-append numbers (end_object ∷ []) (sums-in_line (numbers_of of) row.sums is.sums) (tt, tt) in
-    (tt, AreInLine-append (key_tokens columns row.key) (numbers ++ end_object ∷ []) (key-in_line columns row.key is.key.1) sums)
+row-in_line : (schema : Schema) (row : Row) → IsDetermined schema row → AreInLine (row_tokens schema row)
+row-in_line schema row is =
+    let numbers = sums_tokens schema.numbers row.sums in
+    let sums = AreInLine-append numbers (end_object ∷ []) (sums-in_line schema.numbers row.sums is.sums) (tt, tt) in
+    (tt, AreInLine-append (key_tokens schema.columns row.key) (numbers ++ end_object ∷ []) (key-in_line schema.columns row.key is.key.1) sums)
 
 names-in_line : (columns : List Column) → AreInLine (name_tokens columns)
 names-in_line [] = tt
@@ -269,45 +270,57 @@ unit-in_line : (unit : Unit) → AreInLine (unit_tokens unit)
 unit-in_line Microseconds = tt
 unit-in_line Nanoseconds = (tt, (tt, tt))
 
-head-in_line : (of : Of) (unit : Unit) (columns : List Column) (rows : ℕ) (counts : TableCounts) → rows < 2 ^ 64 → AreSmall counts → AreInLine (head_tokens of unit columns rows counts)
-head-in_line of unit columns rows counts few small =
+number_names-in_line : (numbers : List Number) → AreInLine (map string (map number_name numbers))
+number_names-in_line [] = tt
+number_names-in_line (first ∷ later) = (tt, number_names-in_line later)
+
+list-in_line : (schema : Schema) (rest : List Token) → AreInLine rest → AreInLine (list_tokens schema rest)
+list-in_line schema rest h = by (are_same schema.numbers (usual_numbers Programs schema.of))
+  where
+    by : (b : Bool) → AreInLine (cond b rest (key (codes "numbers") ∷ begin_array ∷ (map string (map number_name schema.numbers) ++ end_array ∷ rest)))
+    by true = h
+    by false = (tt, (tt, AreInLine-append (map string (map number_name schema.numbers)) (end_array ∷ rest) (number_names-in_line schema.numbers) (tt, h)))
+
+head-in_line : (schema : Schema) (unit : Unit) (rows : ℕ) (counts : TableCounts) → rows < 2 ^ 64 → AreSmall counts → AreInLine (head_tokens schema unit rows counts)
+head-in_line schema unit rows counts few small =
     let numbers = AreInLine-append (numbers_tokens rows counts) (end_object ∷ []) (numbers-in_line rows counts few small) (tt, tt) in
-    let rest = columns_tokens columns (numbers_tokens rows counts ++ end_object ∷ []) in
-    let names : AreInLine rest = (tt, (tt, AreInLine-append (name_tokens columns) _ (names-in_line columns) (tt, numbers))) in
+    let listed = list-in_line schema (numbers_tokens rows counts ++ end_object ∷ []) numbers in
+    let rest = columns_tokens schema.columns (list_tokens schema (numbers_tokens rows counts ++ end_object ∷ [])) in
+    let names : AreInLine rest = (tt, (tt, AreInLine-append (name_tokens schema.columns) _ (names-in_line schema.columns) (tt, listed))) in
     let more = AreInLine-append (unit_tokens unit) rest (unit-in_line unit) names in
-    (tt, (tt, (decimal-in_line 1 (omega arith), AreInLine-append (of_tokens of) (unit_tokens unit ++ rest) (of-in_line of) more)))
+    (tt, (tt, (decimal-in_line 1 (omega arith), AreInLine-append (of_tokens schema.of) (unit_tokens unit ++ rest) (of-in_line schema.of) more)))
 
 -- a line is its tokens, printed
-pub json_line-print : (of : Of) (columns : List Column) (row : Row) → json_line of columns row ≡ print (row_tokens of columns row) ++ 10 ∷ []
+pub json_line-print : (schema : Schema) (row : Row) → json_line schema row ≡ print (row_tokens schema row) ++ 10 ∷ []
 unfolding json_line
-json_line-print of columns row = refl
+json_line-print schema row = refl
 
-pub json_head-print : (of : Of) (unit : Unit) (columns : List Column) (rows : ℕ) (counts : TableCounts) → json_head of unit columns rows counts ≡ print (head_tokens of unit columns rows counts) ++ 10 ∷ []
+pub json_head-print : (schema : Schema) (unit : Unit) (rows : ℕ) (counts : TableCounts) → json_head schema unit rows counts ≡ print (head_tokens schema unit rows counts) ++ 10 ∷ []
 unfolding json_head
-json_head-print of unit columns rows counts = refl
+json_head-print schema unit rows counts = refl
 
 -- the tokens of a row are read back
-pub tokens-row : (of : Of) (columns : List Column) (row : Row) → IsDetermined of columns row → tokens (print (row_tokens of columns row)) ≡ row_tokens of columns row
-tokens-row of columns row is = tokens-print (row_tokens of columns row) (all_printable (row_tokens of columns row) (row-in_line of columns row is))
+pub tokens-row : (schema : Schema) (row : Row) → IsDetermined schema row → tokens (print (row_tokens schema row)) ≡ row_tokens schema row
+tokens-row schema row is = tokens-print (row_tokens schema row) (all_printable (row_tokens schema row) (row-in_line schema row is))
 
 -- those of the first line are read back
-pub tokens-head : (of : Of) (unit : Unit) (columns : List Column) (rows : ℕ) (counts : TableCounts) → rows < 2 ^ 64 → counts_fit counts ≡ true →
-    tokens (print (head_tokens of unit columns rows counts)) ≡ head_tokens of unit columns rows counts
-tokens-head of unit columns rows counts few fits =
-    tokens-print (head_tokens of unit columns rows counts) (all_printable (head_tokens of unit columns rows counts) (head-in_line of unit columns rows counts few (counts_small counts fits)))
+pub tokens-head : (schema : Schema) (unit : Unit) (rows : ℕ) (counts : TableCounts) → rows < 2 ^ 64 → counts_fit counts ≡ true →
+    tokens (print (head_tokens schema unit rows counts)) ≡ head_tokens schema unit rows counts
+tokens-head schema unit rows counts few fits =
+    tokens-print (head_tokens schema unit rows counts) (all_printable (head_tokens schema unit rows counts) (head-in_line schema unit rows counts few (counts_small counts fits)))
 
 -- the line of a row is one line
-pub print_row-IsLine : (of : Of) (columns : List Column) (row : Row) → IsDetermined of columns row → IsLine (print (row_tokens of columns row))
-print_row-IsLine of columns row is = print-line false (row_tokens of columns row) (row-in_line of columns row is)
+pub print_row-IsLine : (schema : Schema) (row : Row) → IsDetermined schema row → IsLine (print (row_tokens schema row))
+print_row-IsLine schema row is = print-line false (row_tokens schema row) (row-in_line schema row is)
 
 -- the first line is one line
-pub print_head-IsLine : (of : Of) (unit : Unit) (columns : List Column) (rows : ℕ) (counts : TableCounts) → rows < 2 ^ 64 → counts_fit counts ≡ true → IsLine (print (head_tokens of unit columns rows counts))
-print_head-IsLine of unit columns rows counts few fits = print-line false (head_tokens of unit columns rows counts) (head-in_line of unit columns rows counts few (counts_small counts fits))
+pub print_head-IsLine : (schema : Schema) (unit : Unit) (rows : ℕ) (counts : TableCounts) → rows < 2 ^ 64 → counts_fit counts ≡ true → IsLine (print (head_tokens schema unit rows counts))
+print_head-IsLine schema unit rows counts few fits = print-line false (head_tokens schema unit rows counts) (head-in_line schema unit rows counts few (counts_small counts fits))
 
 -- no line feed stands in the line of a row
-pub print_row-line : (of : Of) (columns : List Column) (row : Row) → IsDetermined of columns row → All (λ byte. byte ≢ 10) (print (row_tokens of columns row))
-print_row-line of columns row is = All-from_recursion (λ byte. byte ≢ 10) (print (row_tokens of columns row)) (print_row-IsLine of columns row is)
+pub print_row-line : (schema : Schema) (row : Row) → IsDetermined schema row → All (λ byte. byte ≢ 10) (print (row_tokens schema row))
+print_row-line schema row is = All-from_recursion (λ byte. byte ≢ 10) (print (row_tokens schema row)) (print_row-IsLine schema row is)
 
 -- no line feed stands in the first line
-pub print_head-line : (of : Of) (unit : Unit) (columns : List Column) (rows : ℕ) (counts : TableCounts) → rows < 2 ^ 64 → counts_fit counts ≡ true → All (λ byte. byte ≢ 10) (print (head_tokens of unit columns rows counts))
-print_head-line of unit columns rows counts few fits = All-from_recursion (λ byte. byte ≢ 10) (print (head_tokens of unit columns rows counts)) (print_head-IsLine of unit columns rows counts few fits)
+pub print_head-line : (schema : Schema) (unit : Unit) (rows : ℕ) (counts : TableCounts) → rows < 2 ^ 64 → counts_fit counts ≡ true → All (λ byte. byte ≢ 10) (print (head_tokens schema unit rows counts))
+print_head-line schema unit rows counts few fits = All-from_recursion (λ byte. byte ≢ 10) (print (head_tokens schema unit rows counts)) (print_head-IsLine schema unit rows counts few fits)

@@ -3,8 +3,9 @@ use Rattle.std.specs.{Prelude.⊤, Cmp.{IsTotalOrder, eq_by_cmp_equiv}, List.{li
 use Rattle.std.proofs.{Common.{◌≡◌, ℕ, ◌+◌, ◌<◌, ◌==◌, Bool, true, false, cond, not, ◌&&◌, ◌||◌, List, [], ◌∷◌, All, Contains, filter, flat_map, get_or, is_some, length, map, sum_by, Option, Some, None, option_map, refl, sym, ap, ap₂, subst, ◌∙◌, arith}, lemmas.{Bool.{and_parts, eqb-true}, List.{length-map, Elements.{All-append, All-contains, All-contains_itself, All-filter, All-head, All-map, All-nil, All-tail, All-weaker}}, Map.Views.list_any-from_Contains}}
 use Rattle.span_event.specs.declared.thread.Thread.{Thread}
 use Rattle.span_keyed_tracks.proofs.{Keyed.has_key, SameKeys.{All-ascending, step_keys}, Uses.is_eq-turned}
-use Rattle.span_table.proofs.{Rows.RowsRise-rows_of, SomeAsync.async_rows-some, Tallies.{sum_by-both, tally, tally-cons}}
-use Rattle.span_table_text.specs.{Words, Bytes, Unit, AsyncKey, Keyed, entry_of, keys_in, steps_at, accepted, async_rows, names_of, thread_events, thread_keys, Timed, timed_spans, Span, closed_spans, parent_of, Called, called, Column, Pid, Tid, Process, Thread as OfThread, Name, File, Cat, Scope, Id, Argument, ParentName, ParentArgument, Of, Spans, Async, Sums, Row, Run, async_value_at, goes_with, value_at, key_cmp_total, TableKey, key_cmp, KeyedSums, RowsRise, SpanTable, keyed_async, keyed_span, row_of, rows_of, run_sums, sums_together, table_of, thread_sums, Json.shown_table, Printed.{AllFit, AllIsPrinted, AreColumns, HasFile, HasOwn, HasSome, HaveFiles, IsKeyOf, IsOfLegal, IsName, IsOfArgument, IsPart, IsPrint, IsTable, IsWords, KeyFits, MayHave, PrintsAreParts}, Shown.{Wanted, is_wanted, key_has, wants_all}}
+use Rattle.span_table.specs.{Numbers.{only_in, set_of}, Sums.{no_sums, with_sums}, Tables.{sums_of, sums_of_async}, declared.number_set.NumberSet.NumberSet}
+use Rattle.span_table.proofs.{Only.{only-again, only_in-together, only_in-with_sums}, Rows.RowsRise-rows_of, SomeAsync.async_rows-some, Tallies.{tally, tally-cons}}
+use Rattle.span_table_text.specs.{Words, Bytes, Unit, AsyncKey, Keyed, entry_of, keys_in, steps_at, accepted, async_rows, names_of, thread_events, thread_keys, Timed, timed_spans, Span, closed_spans, parent_of, Called, called, Column, Pid, Tid, Process, Thread as OfThread, Name, File, Cat, Scope, Id, Argument, ParentName, ParentArgument, Of, Spans, Async, Number, Count, Closed, Open, Points, Sums, Row, Run, AreAmong, async_value_at, goes_with, has_number, only, value_at, key_cmp_total, TableKey, key_cmp, KeyedSums, RowsRise, Schema, SpanTable, keyed_async, keyed_span, longest_async, row_of, rows_of, run_sums, schema_sums, sums_together, table_of, thread_sums, with_only, Json.shown_table, Printed.{AllFit, AllIsPrinted, HasFile, HasOwn, HasSome, HaveFiles, IsKeyOf, IsOfLegal, IsName, IsOfArgument, IsPart, IsPrint, IsSchema, IsTable, IsWords, KeyFits, MayHave, PrintsAreParts, counted, counts_of}, Shown.{Wanted, is_wanted, key_has, wants_all}}
 use Rattle.span_table_text.proofs.{Determined.{HasOwnNumbers, HasWholeKeys, prints-determined}, PrintedLines.numbers_fit-each, Ranked.filter-sorted}
 
 -- what holds of all that each gives holds of all that they give
@@ -17,33 +18,41 @@ All-flat_map P f (x ∷ xs) all =
 All-every : {A : Type 0} (P : A → Type 0) → ((x : A) → P x) → (xs : List A) → All P xs
 All-every P each xs = λ k d low. each (get_or xs k d)
 
--- where each step comes to something, so do those of a key that has one
-module _ {K A : Type 0} {cmp : K → K → Ordering} (o : IsTotalOrder cmp) (f : A → ℕ) where
-  tally-some : (key : K) (es : List (Keyed K A)) → All (λ (e : Keyed K A). 0 < f e.step) es → has_key cmp key (step_keys es) ≡ true → 0 < tally cmp f key es
+-- what counts tell is added as sums are
+counted-with_sums : (of : Of) (a b : Sums) → counted of (with_sums a b) ≡ counted of a + counted of b
+counted-with_sums Spans a b = refl
+counted-with_sums Async a b = omega arith
+
+-- numbers among which its counts are tell the same of a key
+pub counted-only : (of : Of) (numbers : List Number) (s : Sums) → AreAmong (counts_of of) numbers → counted of (only numbers s) ≡ counted of s
+counted-only Spans numbers s told = ap (λ b. cond (b || has_number numbers Closed) s.count 0) (and_parts (has_number numbers Count) true told).0
+counted-only Async numbers s told =
+    let one = and_parts (has_number numbers Closed) _ told in
+    let two = and_parts (has_number numbers Open) _ one.1 in
+    let three = and_parts (has_number numbers Points) true two.1 in
+    let closed : cond (has_number numbers Count || has_number numbers Closed) s.count 0 ≡ s.count = ap (λ b. cond (has_number numbers Count || b) s.count 0) one.0 ∙ ap (λ b. cond b s.count 0) (either (has_number numbers Count)) in
+    let open_ones : cond (has_number numbers Open) s.unclosed 0 ≡ s.unclosed = ap (λ b. cond b s.unclosed 0) two.0 in
+    let points : cond (has_number numbers Points) s.points 0 ≡ s.points = ap (λ b. cond b s.points 0) three.0 in
+    λ i. closed i + (open_ones i + points i)
+  where
+    either : (b : Bool) → (b || true) ≡ true
+    either true = refl
+    either false = refl
+
+-- where each step counts something, so do those of a key that has one
+module _ {K : Type 0} {cmp : K → K → Ordering} (o : IsTotalOrder cmp) (of : Of) where
+  tally-some : (key : K) (es : List (Keyed K Sums)) → All (λ (e : Keyed K Sums). 0 < counted of e.step) es → has_key cmp key (step_keys es) ≡ true → 0 < counted of (tally cmp key es)
   tally-some key [] each has = absurd cc
-  tally-some key (e ∷ es) each has = by (is_eq (cmp key e.key)) refl (tally-some key es (All-tail (λ (x : Keyed K A). 0 < f x.step) e es each))
+  tally-some key (e ∷ es) each has = by (is_eq (cmp key e.key)) refl (tally-some key es (All-tail (λ (x : Keyed K Sums). 0 < counted of x.step) e es each))
     where
-      own : tally cmp f key (e ∷ es) ≡ cond (is_eq (cmp e.key key)) (f e.step) 0 + tally cmp f key es
-      own = tally-cons cmp f key e es
+      own : (b : Bool) → is_eq (cmp e.key key) ≡ b → counted of (tally cmp key (e ∷ es)) ≡ counted of (cond b e.step no_sums) + counted of (tally cmp key es)
+      own b is = ap (counted of) (tally-cons cmp key e es ∙ ap (λ c. with_sums (cond c e.step no_sums) (tally cmp key es)) is) ∙ counted-with_sums of (cond b e.step no_sums) (tally cmp key es)
 
-      by : (b : Bool) → is_eq (cmp key e.key) ≡ b → (has_key cmp key (step_keys es) ≡ true → 0 < tally cmp f key es) → 0 < tally cmp f key (e ∷ es)
-      by true h rest =
-          let some = All-head (λ (x : Keyed K A). 0 < f x.step) e es each in
-          let mine = subst (λ b. tally cmp f key (e ∷ es) ≡ cond b (f e.step) 0 + tally cmp f key es) (is_eq-turned o e.key key ∙ h) own in
-          omega (arith, some, mine)
-      by false h rest = let later = rest (sym (ap (λ b. b || has_key cmp key (step_keys es)) h) ∙ has) in omega (arith, later, own)
-
-nothing : (b : Bool) → let none : ℕ = cond b 0 0 in none ≡ 0
-nothing true = refl
-nothing false = refl
-
--- where each step comes to nothing, so do those of a key
-tally-none : {K A : Type 0} (cmp : K → K → Ordering) (f : A → ℕ) (key : K) (es : List (Keyed K A)) → All (λ (e : Keyed K A). f e.step ≡ 0) es → tally cmp f key es ≡ 0
-tally-none cmp f key [] each = refl
-tally-none {K = K} {A = A} cmp f key (e ∷ es) each =
-    let none : f e.step ≡ 0 = All-head (λ (x : Keyed K A). f x.step ≡ 0) e es each in
-    let own : cond (is_eq (cmp e.key key)) (f e.step) 0 ≡ 0 = ap (λ n. cond (is_eq (cmp e.key key)) n 0) none ∙ nothing (is_eq (cmp e.key key)) in
-    omega (arith, tally-cons cmp f key e es, own, tally-none cmp f key es (All-tail (λ (x : Keyed K A). f x.step ≡ 0) e es each))
+      by : (b : Bool) → is_eq (cmp key e.key) ≡ b → (has_key cmp key (step_keys es) ≡ true → 0 < counted of (tally cmp key es)) → 0 < counted of (tally cmp key (e ∷ es))
+      by true h rest = omega (arith, All-head (λ (x : Keyed K Sums). 0 < counted of x.step) e es each, own true (is_eq-turned o e.key key ∙ h))
+      by false h rest =
+          let later = rest (sym (ap (λ b. b || has_key cmp key (step_keys es)) h) ∙ has) in
+          omega (arith, later, own false (is_eq-turned o e.key key ∙ h))
 
 -- what holds of each key of sums, with what the sums of this key come to, holds of each row
 All-rows : (P : Row → Type 0) (es : KeyedSums) → ((k : TableKey) → Contains (step_keys es) k → P (record { key = k; sums = sums_together (steps_at key_cmp k es) })) → All P (rows_of es)
@@ -53,18 +62,14 @@ All-rows P es each =
     let known = All-weaker (Contains (step_keys es)) (λ k. P (row_of (made k))) each (step_keys es) (All-contains_itself (step_keys es)) in
     All-map P row_of (map made keys) (All-map (λ (e : TableKey × Sums). P (row_of e)) made keys (All-ascending key_cmp (λ k. P (row_of (made k))) (step_keys es) known))
 
+-- what holds of each step holds of those of a key
+All-steps : (P : Sums → Type 0) (k : TableKey) (es : KeyedSums) → All (λ (e : Keyed TableKey Sums). P e.step) es → All P (steps_at key_cmp k es)
+All-steps P k es each =
+    All-map P (λ (e : Keyed TableKey Sums). e.step) (filter (λ (e : Keyed TableKey Sums). is_eq (key_cmp e.key k)) es) (All-filter (λ (e : Keyed TableKey Sums). is_eq (key_cmp e.key k)) (λ (e : Keyed TableKey Sums). P e.step) es each)
+
 -- what holds of the keys of sums holds of those of the rows
 All-keys : (P : TableKey → Type 0) (es : KeyedSums) → All (λ (e : Keyed TableKey Sums). P e.key) es → All (λ (row : Row). P row.key) (rows_of es)
 All-keys P es each = All-rows (λ row. P row.key) es (λ k has. All-contains P (step_keys es) k (All-map P (λ (e : Keyed TableKey Sums). e.key) es each) has)
-
--- where each of some sums counts a span, each row does
-All-counts : (es : KeyedSums) → All (λ (e : Keyed TableKey Sums). 0 < e.step.count) es → All (λ (row : Row). 0 < row.sums.count) (rows_of es)
-All-counts es each =
-    All-rows (λ row. 0 < row.sums.count) es (λ k has. tally-some key_cmp_total (λ (s : Sums). s.count) k es each (list_any-from_Contains (eq_by_cmp_equiv key_cmp_total) k (step_keys es) has))
-
--- where each of some sums has nothing of a number, no row has
-All-none : (f : Sums → ℕ) → ((sums : List Sums) → f (sums_together sums) ≡ sum_by f sums) → (es : KeyedSums) → All (λ (e : Keyed TableKey Sums). f e.step ≡ 0) es → All (λ (row : Row). f row.sums ≡ 0) (rows_of es)
-All-none f adds es each = All-rows (λ row. f row.sums ≡ 0) es (λ k has. adds (steps_at key_cmp k es) ∙ tally-none key_cmp f k es each)
 
 -- what everything has that a table sums of a run, under its key
 abbrev OfRun : Of → List Column → (Keyed TableKey Sums → Type 0) → Run → Type 0
@@ -84,12 +89,18 @@ module _ (columns : List Column) (P : Keyed TableKey Sums → Type 0) where
       All-flat_map P (thread_sums columns run) threads (All-every (λ thread. All P (thread_sums columns run thread)) (λ thread. All-thread run thread (each thread)) threads)
   All-run Async run each = All-map P (keyed_async columns run) (async_rows run.journal) each
 
-  -- what that of each run has, that of all runs has
-  All-runs : (of : Of) (runs : List Run) → All (OfRun of columns P) runs → All P (flat_map (run_sums of columns) runs)
-  All-runs of runs each = All-flat_map P (run_sums of columns) runs (All-weaker (OfRun of columns P) (λ run. All P (run_sums of columns run)) (All-run of) runs each)
+-- what everything has that a table of a schema sums of a run
+module _ (schema : Schema) (P : Keyed TableKey Sums → Type 0) where
+  abbrev kept : Keyed TableKey Sums → Type 0
+  kept e = P (with_only (set_of schema.numbers) e)
 
-  All-runs-every : (of : Of) → ((run : Run) → OfRun of columns P run) → (runs : List Run) → All P (flat_map (run_sums of columns) runs)
-  All-runs-every of each runs = All-runs of runs (All-every (OfRun of columns P) each runs)
+  -- what that of each run has, that of all runs has
+  All-runs : (runs : List Run) → All (OfRun schema.of schema.columns kept) runs → All P (flat_map (schema_sums schema) runs)
+  All-runs runs each = All-flat_map P (schema_sums schema) runs
+      (All-weaker (OfRun schema.of schema.columns kept) (λ run. All P (schema_sums schema run)) (λ run has. All-map P (with_only (set_of schema.numbers)) (run_sums schema.of schema.columns run) (All-run schema.columns kept schema.of run has)) runs each)
+
+  All-runs-every : ((run : Run) → OfRun schema.of schema.columns kept run) → (runs : List Run) → All P (flat_map (schema_sums schema) runs)
+  All-runs-every each runs = All-runs runs (All-every (OfRun schema.of schema.columns kept) each runs)
 
 named : (name : Option Bytes) → IsName (option_map Words name)
 named None = tt
@@ -118,10 +129,10 @@ MayBeKey-is (column ∷ columns) [] is = absurd is
 MayBeKey-is (column ∷ columns) (value ∷ key) is = (λ fits. is.0, MayBeKey-is columns key is.1)
 
 -- sums under a key that a table by these columns may have, if the numbers of the key have 64 bits
-pub record Suits (of : Of) (columns : List Column) (sums : Keyed TableKey Sums) : Type 0 where
-  pub key : MayBeKey columns sums.key
-  pub own : HasOwn of sums.step
-  pub some : HasSome of sums.step
+pub record Suits (schema : Schema) (sums : Keyed TableKey Sums) : Type 0 where
+  pub key : MayBeKey schema.columns sums.key
+  pub own : HasOwn schema sums.step
+  pub some : HasSome schema sums.step
 
 -- rows are sums, each under its key
 abbrev pub row_sums : Row → Keyed TableKey Sums
@@ -129,39 +140,32 @@ row_sums row = record { key = row.key; step = row.sums }
 
 -- rows that a table may have, if their numbers have 64 bits
 pub record HasRows (table : SpanTable) : Type 0 where
-  pub each : All (λ row. Suits table.of table.columns (row_sums row)) table.rows
+  pub each : All (λ row. Suits table.schema (row_sums row)) table.rows
   pub rise : RowsRise table.rows
 
--- no row has a number that what is summed doesn't have, where no sums have it
-All-own : (of : Of) (es : KeyedSums) → All (λ (e : Keyed TableKey Sums). HasOwn of e.step) es → All (λ (row : Row). HasOwn of row.sums) (rows_of es)
-All-own Spans es own =
-    let unclosed = All-none (λ (s : Sums). s.unclosed) (λ sums. refl) es (λ k d low. ap (λ (s : Sums). s.unclosed) (own k d low)) in
-    let points = All-none (λ (s : Sums). s.points) (λ sums. refl) es (λ k d low. ap (λ (s : Sums). s.points) (own k d low)) in
-    λ k d low. let row = get_or (rows_of es) k d in
-    λ i. record { count = row.sums.count; total = row.sums.total; self_time = row.sums.self_time; unclosed = unclosed k d low i; points = points k d low i }
-All-own Async es own =
-    let self = All-none (λ (s : Sums). s.self_time) (λ sums. refl) es (λ k d low. ap (λ (s : Sums). s.self_time) (own k d low)) in
-    λ k d low. let row = get_or (rows_of es) k d in
-    λ i. record { count = row.sums.count; total = row.sums.total; self_time = self k d low i; unclosed = row.sums.unclosed; points = row.sums.points }
+-- no row has a number that a table doesn't have, where no sums have it
+All-own : (schema : Schema) (es : KeyedSums) → All (λ (e : Keyed TableKey Sums). HasOwn schema e.step) es → All (λ (row : Row). HasOwn schema row.sums) (rows_of es)
+All-own schema es own = All-rows (λ row. HasOwn schema row.sums) es (λ k has. together (steps_at key_cmp k es) (All-steps (HasOwn schema) k es own))
+  where
+    together : (sums : List Sums) → All (HasOwn schema) sums → sums_together sums ≡ only schema.numbers (sums_together sums)
+    together [] each = sym (only_in-together (set_of schema.numbers) [])
+    together (s ∷ sums) each =
+        ap₂ with_sums (All-head (HasOwn schema) s sums each) (together sums (All-tail (HasOwn schema) s sums each)) ∙ sym (only_in-with_sums (set_of schema.numbers) s (sums_together sums))
 
--- where all sums count a span, so do all rows
-All-some : (of : Of) (es : KeyedSums) → All (λ (e : Keyed TableKey Sums). HasSome of e.step) es → All (λ (row : Row). HasSome of row.sums) (rows_of es)
-All-some Spans es some = All-counts es some
-All-some Async es some =
-    All-rows (λ row. HasSome Async row.sums) es
-    (λ k has.
-    let steps = steps_at key_cmp k es in
-    let own = tally-some key_cmp_total (λ (s : Sums). s.count + (s.unclosed + s.points)) k es some (list_any-from_Contains (eq_by_cmp_equiv key_cmp_total) k (step_keys es) has) in
-    omega (arith, own, sum_by-both (λ (s : Sums). s.count) (λ (s : Sums). s.unclosed + s.points) steps, sum_by-both (λ (s : Sums). s.unclosed) (λ (s : Sums). s.points) steps))
+-- where all sums count something, so do all rows
+All-some : (schema : Schema) (es : KeyedSums) → All (λ (e : Keyed TableKey Sums). HasSome schema e.step) es → All (λ (row : Row). HasSome schema row.sums) (rows_of es)
+All-some schema es some =
+    All-rows (λ row. HasSome schema row.sums) es
+    (λ k has told. tally-some key_cmp_total schema.of k es (λ i d low. some i d low told) (list_any-from_Contains (eq_by_cmp_equiv key_cmp_total) k (step_keys es) has))
 
--- the rows of sums that suit its columns are those that a table may have
-pub HasRows-rows_of : (table : SpanTable) (es : KeyedSums) → table.rows ≡ rows_of es → All (Suits table.of table.columns) es → HasRows table
+-- the rows of sums that suit its schema are those that a table may have
+pub HasRows-rows_of : (table : SpanTable) (es : KeyedSums) → table.rows ≡ rows_of es → All (Suits table.schema) es → HasRows table
 HasRows-rows_of table es are suits =
-    let keys = All-keys (MayBeKey table.columns) es (λ k d low. (suits k d low).key) in
-    let own = All-own table.of es (λ k d low. (suits k d low).own) in
-    let some = All-some table.of es (λ k d low. (suits k d low).some) in
+    let keys = All-keys (MayBeKey table.schema.columns) es (λ k d low. (suits k d low).key) in
+    let own = All-own table.schema es (λ k d low. (suits k d low).own) in
+    let some = All-some table.schema es (λ k d low. (suits k d low).some) in
     record {
-      each = subst (All (λ (row : Row). Suits table.of table.columns (row_sums row))) (sym are) (λ k d low. record { key = keys k d low; own = own k d low; some = some k d low });
+      each = subst (All (λ (row : Row). Suits table.schema (row_sums row))) (sym are) (λ k d low. record { key = keys k d low; own = own k d low; some = some k d low });
       rise = subst RowsRise (sym are) (RowsRise-rows_of es);
     }
 
@@ -170,24 +174,24 @@ pub HasRows-shown : (wanted : Wanted) (table : SpanTable) → HasRows table → 
 HasRows-shown wanted table has =
     let shown = λ (row : Row). is_wanted wanted row.key in
     record {
-      each = All-filter shown (λ (row : Row). Suits table.of table.columns (row_sums row)) table.rows has.each;
+      each = All-filter shown (λ (row : Row). Suits table.schema (row_sums row)) table.rows has.each;
       rise = filter-sorted (λ (a b : Row). key_cmp a.key b.key) shown table.rows has.rise;
     }
 
 -- a table that has such rows, whose numbers have 64 bits, can be read back
-pub IsTable-fits : (table : SpanTable) → AreColumns table.of table.columns → HasRows table → AllFit table → IsTable table
+pub IsTable-fits : (table : SpanTable) → IsSchema table.schema → HasRows table → AllFit table → IsTable table
 IsTable-fits table are has fits =
     let numbers = numbers_fit-each table fits.numbers in
     record {
-      columns = are;
+      schema = are;
       counts = numbers.0;
       few = fits.few;
-      rows = λ k d low. let row = has.each k d low in record { key = IsKeyOf-fits table.columns (get_or table.rows k d).key row.key (fits.keys k d low); own = row.own; some = row.some; fits = numbers.1 k d low };
+      rows = λ k d low. let row = has.each k d low in record { key = IsKeyOf-fits table.schema.columns (get_or table.rows k d).key row.key (fits.keys k d low); own = row.own; some = row.some; fits = numbers.1 k d low };
       rise = has.rise;
     }
 
 -- so what is printed of it is a part
-pub IsPart-print : (unit : Unit) (text : Bytes) (table : SpanTable) → AreColumns table.of table.columns → HasRows table → IsPrint unit text table → IsPart unit text table
+pub IsPart-print : (unit : Unit) (text : Bytes) (table : SpanTable) → IsSchema table.schema → HasRows table → IsPrint unit text table → IsPart unit text table
 IsPart-print unit text table are has print = record { is = IsTable-fits table are has print.fits; utf8 = print.utf8; printed = print.printed }
 
 called-IsName : (parent : Option Called) → IsName (option_map (λ (p : Called). Words p.name) parent)
@@ -242,55 +246,69 @@ module _ (run : Run) (key : AsyncKey) where
         async_key-MayBeKey columns (All-tail goes column columns suited) (All-tail (HasFile run) column columns files),
       )
 
-module _ (columns : List Column) where
+module _ (schema : Schema) where
+  abbrev columns : List Column
+  columns = schema.columns
+
+  abbrev numbers : NumberSet
+  numbers = set_of schema.numbers
+
   -- each key of what is summed has a value for each column
   run-whole : (of : Of) (run : Run) → OfRun of columns (λ e. length e.key ≡ length columns) run
   run-whole Spans run = λ thread spans t. length-map columns (value_at run thread (called t.span) (option_map called (parent_of spans t.span)))
   run-whole Async run = λ k d low. length-map columns (async_value_at run (get_or (async_rows run.journal) k d).key)
 
-  -- it has no numbers that are not its own
-  run-own : (of : Of) (run : Run) → OfRun of columns (λ e. HasOwn of e.step) run
-  run-own Spans run = λ thread spans t. refl
-  run-own Async run = λ k d low. refl
+  -- it has no numbers but those of the schema
+  run-own : (of : Of) (run : Run) → OfRun of columns (λ e. HasOwn schema (only_in numbers e.step)) run
+  run-own Spans run = λ thread spans t. sym (only-again schema.numbers (sums_of spans t))
+  run-own Async run = λ k d low. let row = get_or (async_rows run.journal) k d in sym (only-again schema.numbers (sums_of_async row (longest_async run.journal row.key)))
 
-  run-Suits : (of : Of) → All (λ column. goes_with of column ≡ true) columns → (run : Run) → All (HasFile run) columns → IsOfLegal run → OfRun of columns (Suits of columns) run
-  run-Suits Spans suited run files legal = λ thread spans t. record { key = key-MayBeKey run thread (called t.span) (option_map called (parent_of spans t.span)) columns suited files; own = refl; some = omega arith }
-  run-Suits Async suited run files legal =
-      λ k d low. record {
-        key = async_key-MayBeKey run (get_or (async_rows run.journal) k d).key columns suited files;
-        own = refl;
-        some = async_rows-some legal.0 run.journal legal.1 k d low;
+  -- counts that tell something of a key tell it with the numbers of the schema alone
+  some-only : (of : Of) → schema.of ≡ of → (s : Sums) → 0 < counted of s → HasSome schema (only_in numbers s)
+  some-only of is s some = λ told. omega (arith, some, counted-only schema.of schema.numbers s told, ap (λ o. counted o s) is)
+
+  run-Suits : (of : Of) → schema.of ≡ of → All (λ column. goes_with of column ≡ true) columns → (run : Run) → All (HasFile run) columns → IsOfLegal run → OfRun of columns (λ e. Suits schema (with_only numbers e)) run
+  run-Suits Spans is suited run files legal = λ thread spans t. record {
+    key = key-MayBeKey run thread (called t.span) (option_map called (parent_of spans t.span)) columns suited files;
+    own = run-own Spans run thread spans t;
+    some = some-only Spans is (sums_of spans t) (omega arith);
+  }
+  run-Suits Async is suited run files legal = λ k d low.
+      let row = get_or (async_rows run.journal) k d in
+      record {
+        key = async_key-MayBeKey run row.key columns suited files;
+        own = run-own Async run k d low;
+        some = some-only Async is (sums_of_async row (longest_async run.journal row.key)) (async_rows-some legal.0 run.journal legal.1 k d low);
       }
 
   module _ (runs : List Run) where
-    pub table_of-HasWholeKeys : (of : Of) → HasWholeKeys (table_of of columns runs)
-    table_of-HasWholeKeys of =
-        All-keys (λ key. length key ≡ length columns) (flat_map (run_sums of columns) runs)
-        (All-runs-every columns (λ e. length e.key ≡ length columns) of (run-whole of) runs)
+    pub table_of-HasWholeKeys : HasWholeKeys (table_of schema runs)
+    table_of-HasWholeKeys =
+        All-keys (λ key. length key ≡ length columns) (flat_map (schema_sums schema) runs)
+        (All-runs-every schema (λ e. length e.key ≡ length columns) (run-whole schema.of) runs)
 
-    -- no row has a number that what is summed doesn't have
-    pub table_of-HasOwnNumbers : (of : Of) → HasOwnNumbers (table_of of columns runs)
-    table_of-HasOwnNumbers of = All-own of (flat_map (run_sums of columns) runs) (All-runs-every columns (λ e. HasOwn of e.step) of (run-own of) runs)
+    -- no row has a number that the schema doesn't have
+    pub table_of-HasOwnNumbers : HasOwnNumbers (table_of schema runs)
+    table_of-HasOwnNumbers = All-own schema (flat_map (schema_sums schema) runs) (All-runs-every schema (λ e. HasOwn schema e.step) (run-own schema.of) runs)
 
-    -- what a table sums of runs that have their files suits its columns
-    runs-Suits : (of : Of) → All (λ column. goes_with of column ≡ true) columns → HaveFiles columns runs → All IsOfLegal runs → All (Suits of columns) (flat_map (run_sums of columns) runs)
-    runs-Suits of suited files legal = All-runs columns (Suits of columns) of runs (λ k d low. run-Suits of suited (get_or runs k d) (files k d low) (legal k d low))
+    -- what a table sums of runs that have their files suits its schema
+    runs-Suits : All (λ column. goes_with schema.of column ≡ true) columns → HaveFiles columns runs → All IsOfLegal runs → All (Suits schema) (flat_map (schema_sums schema) runs)
+    runs-Suits suited files legal = All-runs schema (Suits schema) runs (λ k d low. run-Suits schema.of refl suited (get_or runs k d) (files k d low) (legal k d low))
 
-module _ (of : Of) (columns : List Column) (runs : List Run) where
+module _ (schema : Schema) (runs : List Run) where
   -- a table that was read of what is printed of runs is the table of these
-  pub IsPart-table_of : (unit second : Unit) (text : Bytes) (part : SpanTable) → IsPart unit text part → IsPrint second text (table_of of columns runs)
-      → (unit ≡ second) × (part ≡ table_of of columns runs)
+  pub IsPart-table_of : (unit second : Unit) (text : Bytes) (part : SpanTable) → IsPart unit text part → IsPrint second text (table_of schema runs) → (unit ≡ second) × (part ≡ table_of schema runs)
   IsPart-table_of unit second text part is print =
-      prints-determined unit second text part (table_of of columns runs) is print (table_of-HasWholeKeys columns runs of) (table_of-HasOwnNumbers columns runs of)
+      prints-determined unit second text part (table_of schema runs) is print (table_of-HasWholeKeys schema runs) (table_of-HasOwnNumbers schema runs)
 
-  pub table_of-HasRows : All (λ column. goes_with of column ≡ true) columns → HaveFiles columns runs → All IsOfLegal runs → HasRows (table_of of columns runs)
-  table_of-HasRows suited files legal = HasRows-rows_of (table_of of columns runs) (flat_map (run_sums of columns) runs) refl (runs-Suits columns runs of suited files legal)
+  pub table_of-HasRows : All (λ column. goes_with schema.of column ≡ true) schema.columns → HaveFiles schema.columns runs → All IsOfLegal runs → HasRows (table_of schema runs)
+  table_of-HasRows suited files legal = HasRows-rows_of (table_of schema runs) (flat_map (schema_sums schema) runs) refl (runs-Suits schema runs suited files legal)
 
 -- so what is printed of the rows that are shown of such runs is a part
 pub prints-parts : PrintsAreParts
-prints-parts unit of columns runs wanted text are files legal print =
-    let table = table_of of columns runs in
-    IsPart-print unit text (shown_table wanted table) are (HasRows-shown wanted table (table_of-HasRows of columns runs are.suited files legal)) print
+prints-parts unit schema runs wanted text are files legal print =
+    let table = table_of schema runs in
+    IsPart-print unit text (shown_table wanted table) are (HasRows-shown wanted table (table_of-HasRows schema runs are.columns.suited files legal)) print
 
 filter-every : {A : Type 0} (p : A → Bool) → ((x : A) → p x ≡ true) → (xs : List A) → filter p xs ≡ xs
 filter-every p each [] = refl
@@ -298,7 +316,7 @@ filter-every p each (x ∷ xs) = ap (λ b. cond b (x ∷ filter p xs) (filter p 
 
 -- where all rows are wanted, what is shown of a table is the whole table
 pub shown_table-all : (wanted : Wanted) (table : SpanTable) → wants_all wanted ≡ true → shown_table wanted table ≡ table
-shown_table-all wanted table all = λ i. record { of = table.of; columns = table.columns; counts = table.counts; rows = filter-every (λ (row : Row). is_wanted wanted row.key) (λ row. each row.key) table.rows i }
+shown_table-all wanted table all = λ i. record { schema = table.schema; counts = table.counts; rows = filter-every (λ (row : Row). is_wanted wanted row.key) (λ row. each row.key) table.rows i }
   where
     none : (texts : List Bytes) → (length texts == 0) ≡ true → texts ≡ []
     none [] e = refl

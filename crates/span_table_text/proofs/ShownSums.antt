@@ -102,7 +102,7 @@ module _ (p : TableKey → Bool) where
 
 -- of tables that are added, the rows that are shown are those of each that are, added
 pub shown_table-added : ShownRowsAdd
-shown_table-added wanted of columns tables = λ i. record { of = of; columns = columns; counts = counts_together (counts tables i); rows = rows i }
+shown_table-added wanted schema tables = λ i. record { schema = schema; counts = counts_together (counts tables i); rows = rows i }
   where
     counts : (tables : List SpanTable) → map (λ (table : SpanTable). table.counts) tables ≡ map (λ (table : SpanTable). table.counts) (map (shown_table wanted) tables)
     counts [] = refl

@@ -1,22 +1,22 @@
 -- The rows of a table for machines: JSON Lines.
-use Rattle.std.specs.{List.list_all, Prelude.{ℕ, Bool, ◌&&◌, List, ◌++◌, flat_map, length}}
-use Rattle.span_table_text.specs.{Bytes, Unit, Column, Of, TableCounts, Row, SpanTable, counts_fit, fit, Shown.{Wanted, shown_rows}, Tokens.{head_tokens, row_tokens, token_line}}
+use Rattle.std.specs.{List.list_all, Prelude.{ℕ, Bool, ◌&&◌, ◌++◌, flat_map, length}}
+use Rattle.span_table_text.specs.{Bytes, Unit, TableCounts, Row, Schema, SpanTable, counts_fit, fit, Shown.{Wanted, shown_rows}, Tokens.{head_tokens, row_tokens, token_line}}
 
 -- the line of a row
-unfoldable pub json_line : Of → List Column → Row → Bytes
-json_line of columns row = token_line (row_tokens of columns row)
+unfoldable pub json_line : Schema → Row → Bytes
+json_line schema row = token_line (row_tokens schema row)
 
 -- the first line
-unfoldable pub json_head : Of → Unit → List Column → ℕ → TableCounts → Bytes
-json_head of unit columns rows counts = token_line (head_tokens of unit columns rows counts)
+unfoldable pub json_head : Schema → Unit → ℕ → TableCounts → Bytes
+json_head schema unit rows counts = token_line (head_tokens schema unit rows counts)
 
 -- the first line, and then one for each row
 abbrev pub text_of : Unit → SpanTable → Bytes
-text_of unit table = json_head table.of unit table.columns (length table.rows) table.counts ++ flat_map (json_line table.of table.columns) table.rows
+text_of unit table = json_head table.schema unit (length table.rows) table.counts ++ flat_map (json_line table.schema) table.rows
 
 -- the table without the rows that aren't shown
 abbrev pub shown_table : Wanted → SpanTable → SpanTable
-shown_table wanted table = record { of = table.of; columns = table.columns; counts = table.counts; rows = shown_rows wanted table.rows }
+shown_table wanted table = record { schema = table.schema; counts = table.counts; rows = shown_rows wanted table.rows }
 
 abbrev pub json_of : Unit → Wanted → SpanTable → Bytes
 json_of unit wanted table = text_of unit (shown_table wanted table)

@@ -1,6 +1,6 @@
 -- Tables that are printed as JSON Lines, and those whose text can be read back.
-use Rattle.std.specs.{Int.w64, Prelude.{◌≡◌, ◌≢◌, ◌<◌, ◌≤◌, ◌^◌, ◌+◌, Bool, true, List, [], ◌∷◌, All, is_some, length, map, Some, None, FitsSigned, ⊤}, Str.IsUtf8}
-use Rattle.span_table_text.specs.{Whole, Words, Bytes, IsLegal, Unit, Column, Pid, Tid, Process, Thread, Name, File, Cat, Scope, Id, Argument, ParentName, ParentArgument, Of, Spans, Async, Sums, Row, Run, Value, column_name, goes_with, is_column, counts_fit, fit, numbers_of, only, TableKey, RowsRise, SpanTable, add_tables, table_of, Json.{numbers_fit, shown_table, text_of}, Shown.{Wanted, wants_all}}
+use Rattle.std.specs.{Int.w64, Prelude.{◌≡◌, ◌≢◌, ℕ, ◌<◌, ◌≤◌, ◌^◌, ◌+◌, Bool, true, List, [], ◌∷◌, All, is_some, length, map, Some, None, FitsSigned, ⊤}, Str.IsUtf8}
+use Rattle.span_table_text.specs.{Whole, Words, Bytes, IsLegal, Unit, Column, Pid, Tid, Process, Thread, Name, File, Cat, Scope, Id, Argument, ParentName, ParentArgument, Of, Spans, Async, Number, Count, Closed, Open, Points, Sums, Row, Run, Value, AreAmong, all_of, column_name, goes_with, has_number, is_column, counts_fit, fit, number_name, only, TableKey, RowsRise, Schema, SpanTable, add_tables, table_of, Json.{numbers_fit, shown_table, text_of}, Shown.{Wanted, wants_all}}
 
 -- a number, which has 64 bits
 abbrev pub IsWhole : Value → Type 0
@@ -46,7 +46,7 @@ KeyFits (column ∷ columns) (value ∷ key) = IsOfArgument value × KeyFits col
 pub record AllFit (table : SpanTable) : Type 0 where
   pub numbers : numbers_fit table ≡ true
   pub few : length table.rows < 2 ^ 64
-  pub keys : All (λ row. KeyFits table.columns row.key) table.rows
+  pub keys : All (λ row. KeyFits table.schema.columns row.key) table.rows
 
 -- the text of such a table, in this unit
 pub record IsPrint (unit : Unit) (text : Bytes) (table : SpanTable) : Type 0 where
@@ -73,20 +73,28 @@ IsKeyOf [] [] = ⊤
 IsKeyOf (column ∷ columns) (value ∷ key) = MayHave column value × IsKeyOf columns key
 IsKeyOf columns key = ⊥
 
--- numbers that what is summed doesn't have are 0
-abbrev pub HasOwn : Of → Sums → Type 0
-HasOwn of sums = sums ≡ only (numbers_of of) sums
+-- numbers that a table doesn't have are 0
+abbrev pub HasOwn : Schema → Sums → Type 0
+HasOwn schema sums = sums ≡ only schema.numbers sums
 
--- a key of spans has one; an asynchronous key has a span, closed or open, or a point
-abbrev pub HasSome : Of → Sums → Type 0
-HasSome Spans sums = 0 < sums.count
-HasSome Async sums = 0 < sums.count + (sums.unclosed + sums.points)
+-- the counts that tell whether a key has anything, and what they come to
+abbrev pub counts_of : Of → List Number
+counts_of Spans = Count ∷ []
+counts_of Async = Closed ∷ Open ∷ Points ∷ []
 
--- a row that a table by these columns may have
-pub record IsRowOf (of : Of) (columns : List Column) (row : Row) : Type 0 where
-  pub key : IsKeyOf columns row.key
-  pub own : HasOwn of row.sums
-  pub some : HasSome of row.sums
+abbrev pub counted : Of → Sums → ℕ
+counted Spans sums = sums.count
+counted Async sums = sums.count + (sums.unclosed + sums.points)
+
+-- a key of spans has one; an asynchronous key has a span, closed or open, or a point; as far as a table has these numbers
+abbrev pub HasSome : Schema → Sums → Type 0
+HasSome schema sums = AreAmong (counts_of schema.of) schema.numbers → 0 < counted schema.of sums
+
+-- a row that a table of a schema may have
+pub record IsRowOf (schema : Schema) (row : Row) : Type 0 where
+  pub key : IsKeyOf schema.columns row.key
+  pub own : HasOwn schema row.sums
+  pub some : HasSome schema row.sums
   pub fits : fit row.sums ≡ true
 
 -- none comes twice
@@ -102,12 +110,23 @@ pub record AreColumns (of : Of) (columns : List Column) : Type 0 where
   pub suited : All (λ column. goes_with of column ≡ true) columns
   pub distinct : AreDistinct (map column_name columns)
 
+-- the numbers that a table may have
+pub record AreNumbers (of : Of) (numbers : List Number) : Type 0 where
+  pub some : 0 < length numbers
+  pub each : All (λ number. has_number (all_of of) number ≡ true) numbers
+  pub distinct : AreDistinct (map number_name numbers)
+
+-- a schema that a table may have
+pub record IsSchema (schema : Schema) : Type 0 where
+  pub columns : AreColumns schema.of schema.columns
+  pub numbers : AreNumbers schema.of schema.numbers
+
 -- a table whose text can be read back
 pub record IsTable (table : SpanTable) : Type 0 where
-  pub columns : AreColumns table.of table.columns
+  pub schema : IsSchema table.schema
   pub counts : counts_fit table.counts ≡ true
   pub few : length table.rows < 2 ^ 64
-  pub rows : All (IsRowOf table.of table.columns) table.rows
+  pub rows : All (IsRowOf table.schema) table.rows
   pub rise : RowsRise table.rows
 
 -- a part: the text of such a table, in this unit
@@ -126,9 +145,9 @@ AllIsPrinted = (unit : Unit) (wanted : Wanted) (table : SpanTable) (text : Bytes
 
 -- what is printed of the rows that are shown of runs is a part, if the runs have their files, and legal journals
 abbrev pub PrintsAreParts : Type 0
-PrintsAreParts = (unit : Unit) (of : Of) (columns : List Column) (runs : List Run) (wanted : Wanted) (text : Bytes) → AreColumns of columns → HaveFiles columns runs → All IsOfLegal runs →
-    IsPrint unit text (shown_table wanted (table_of of columns runs)) → IsPart unit text (shown_table wanted (table_of of columns runs))
+PrintsAreParts = (unit : Unit) (schema : Schema) (runs : List Run) (wanted : Wanted) (text : Bytes) → IsSchema schema → HaveFiles schema.columns runs → All IsOfLegal runs →
+    IsPrint unit text (shown_table wanted (table_of schema runs)) → IsPart unit text (shown_table wanted (table_of schema runs))
 
 -- of tables that are added, the rows that are shown are those of each that are, added
 abbrev pub ShownRowsAdd : Type 0
-ShownRowsAdd = (wanted : Wanted) (of : Of) (columns : List Column) (tables : List SpanTable) → shown_table wanted (add_tables of columns tables) ≡ add_tables of columns (map (shown_table wanted) tables)
+ShownRowsAdd = (wanted : Wanted) (schema : Schema) (tables : List SpanTable) → shown_table wanted (add_tables schema tables) ≡ add_tables schema (map (shown_table wanted) tables)

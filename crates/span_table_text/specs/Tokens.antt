@@ -1,7 +1,7 @@
 -- The tokens of the lines for other programs, which are printed on one line each.
-use Rattle.std.specs.{Fmt.signed_decimal, Prelude.{◌≡◌, ℕ, List, [], ◌∷◌, ◌++◌, flat_map, map, OnOk, Result, Some, None, codes, decimal}}
+use Rattle.std.specs.{Fmt.signed_decimal, Prelude.{◌≡◌, ℕ, if◌then◌else◌, List, [], ◌∷◌, ◌++◌, flat_map, map, OnOk, Result, Some, None, codes, decimal}}
 use Rattle.json.specs.{Print.print, Token.{Token, begin_object, end_object, begin_array, end_array, key, string, number, boolean, null}, Written.Written}
-use Rattle.span_table_text.specs.{ArgValue, Nil, Flag, Whole, Words, Other, Bytes, Unit as TimeUnit, Microseconds, Nanoseconds, CountRow, Column, TableCounts, Number, Of, Spans, Async, Sums, Row, column_name, number_by, number_name, numbers_of, TableKey}
+use Rattle.span_table_text.specs.{ArgValue, Nil, Flag, Whole, Words, Other, Bytes, Unit as TimeUnit, Microseconds, Nanoseconds, CountRow, Column, TableCounts, Number, Of, Programs, Spans, Async, Sums, Row, are_same, column_name, number_by, number_name, usual_numbers, Schema, TableKey}
 
 -- the line of these tokens
 abbrev pub token_line : List Token → Bytes
@@ -37,8 +37,8 @@ number_tokens name n = key name ∷ number (decimal n) ∷ []
 abbrev pub sums_tokens : List Number → Sums → List Token
 sums_tokens numbers sums = flat_map (λ n. number_tokens (number_name n) (number_by n sums)) numbers
 
-abbrev pub row_tokens : Of → List Column → Row → List Token
-row_tokens of columns row = begin_object ∷ (key_tokens columns row.key ++ (sums_tokens (numbers_of of) row.sums ++ end_object ∷ []))
+abbrev pub row_tokens : Schema → Row → List Token
+row_tokens schema row = begin_object ∷ (key_tokens schema.columns row.key ++ (sums_tokens schema.numbers row.sums ++ end_object ∷ []))
 
 -- the names of columns
 abbrev pub name_tokens : List Column → List Token
@@ -71,10 +71,15 @@ unit_tokens Nanoseconds = key (codes "unit") ∷ string (codes "ns") ∷ []
 abbrev pub columns_tokens : List Column → List Token → List Token
 columns_tokens columns rest = key (codes "columns") ∷ begin_array ∷ (name_tokens columns ++ end_array ∷ rest)
 
--- a first line up to its columns, and then these
-abbrev pub start_tokens : Of → TimeUnit → List Column → List Token → List Token
-start_tokens of unit columns rest = begin_object ∷ (number_tokens (codes "tracebook") 1 ++ (of_tokens of ++ (unit_tokens unit ++ columns_tokens columns rest)))
+-- the numbers of rows, where they aren't the usual ones, and then these
+abbrev pub list_tokens : Schema → List Token → List Token
+list_tokens schema rest =
+    if are_same schema.numbers (usual_numbers Programs schema.of) then rest else key (codes "numbers") ∷ begin_array ∷ (map string (map number_name schema.numbers) ++ end_array ∷ rest)
+
+-- what a first line says of a schema, and then these
+abbrev pub start_tokens : Schema → TimeUnit → List Token → List Token
+start_tokens schema unit rest = begin_object ∷ (number_tokens (codes "tracebook") 1 ++ (of_tokens schema.of ++ (unit_tokens unit ++ columns_tokens schema.columns (list_tokens schema rest))))
 
 -- the first line of a table
-abbrev pub head_tokens : Of → TimeUnit → List Column → ℕ → TableCounts → List Token
-head_tokens of unit columns rows counts = start_tokens of unit columns (numbers_tokens rows counts ++ end_object ∷ [])
+abbrev pub head_tokens : Schema → TimeUnit → ℕ → TableCounts → List Token
+head_tokens schema unit rows counts = start_tokens schema unit (numbers_tokens rows counts ++ end_object ∷ [])

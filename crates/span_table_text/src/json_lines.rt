@@ -6,7 +6,7 @@ use crate::members::{column_names, ended, put_counts, put_key, put_numbers, put_
 use crate::shown::{Shown, ShownRow};
 use json::Writer;
 use span_event::{Text, Unit};
-use span_table::{Column, Of, Row, Table, TableCounts, counts_fit, fits};
+use span_table::{Row, Schema, Table, TableCounts, counts_fit, fits};
 use std::alloc::{AllocError, Global};
 
 /// Why rows were not printed for a machine.
@@ -68,18 +68,17 @@ fn text_of(
     requires counts { counts_fit table.now.counts ≡ true }
     requires rows { list_all (λ row. fit row.sums) rows.now ≡ true }
     ensures text { IfOk result (λ text. text.items
-        ≡ json_head table.now.of unit table.now.columns (length rows.now) table.now.counts
-        ++ flat_map (json_line table.now.of table.now.columns) rows.now) }
+        ≡ json_head table.now.schema unit (length rows.now) table.now.counts
+        ++ flat_map (json_line table.now.schema) rows.now) }
     ensures utf8 { IfOk result (λ text. IsUtf8 text.items) }
     ensures few { OnOk result (length rows.now < 2 ^ 64) }
-    ensures keys { OnOk result (All (λ row. KeyFits table.now.columns row.key) rows.now) }
+    ensures keys { OnOk result (All (λ row. KeyFits table.now.schema.columns row.key) rows.now) }
 {
-    let (of, columns) = (table.kind(), table.columns());
-    let names = column_names(alloc, columns)?;
+    let schema = table.schema();
+    let names = column_names(alloc, &schema.columns)?;
     let head = Head {
-        of,
+        schema,
         unit,
-        columns,
         names: &names,
         rows: rows.len() as u64,
         counts: table.counts(),
@@ -89,7 +88,7 @@ fn text_of(
     let mut line = Vec::new(alloc);
     for shown in rows {
         line.clear();
-        line = with_json_row(line, of, columns, &names, shown.row)?;
+        line = with_json_row(line, schema, &names, shown.row)?;
         out.extend_from_slice(&line)?;
     }
     Ok(out)
@@ -98,9 +97,8 @@ fn text_of(
 /// What the first line of a table says. The columns have these names.
 #[derive(Drop)]
 pub struct Head<'a> {
-    pub of: Of,
+    pub schema: &'a Schema,
     pub unit: Unit,
-    pub columns: &'a [Column],
     pub names: &'a [Text],
     pub rows: u64,
     pub counts: TableCounts,
@@ -109,12 +107,12 @@ pub struct Head<'a> {
 /// A text with the first line of a table behind it.
 #[tactic(auto, unfolding(crate::specs::Json::json_head))]
 pub fn with_json_head(out: Vec<u8>, head: &Head) -> Result<Vec<u8>, AllocError>
-    requires names { head.now.names.now ≡ map column_name head.now.columns.now }
+    requires names { head.now.names.now ≡ map column_name head.now.schema.now.columns }
     requires counts { counts_fit head.now.counts ≡ true }
-    ensures line { IfOk result (λ new. new.items ≡ out.items ++ json_head head.now.of
-        head.now.unit head.now.columns.now head.now.rows head.now.counts) }
-    ensures utf8 { OnOk result (IsUtf8 (json_head head.now.of head.now.unit
-        head.now.columns.now head.now.rows head.now.counts)) }
+    ensures line { IfOk result (λ new. new.items ≡ out.items ++ json_head head.now.schema.now
+        head.now.unit head.now.rows head.now.counts) }
+    ensures utf8 { OnOk result (IsUtf8 (json_head head.now.schema.now head.now.unit
+        head.now.rows head.now.counts)) }
 {
     let mut writer = Writer::new(out);
     put_head(&mut writer, head)?;
@@ -123,53 +121,51 @@ pub fn with_json_head(out: Vec<u8>, head: &Head) -> Result<Vec<u8>, AllocError>
 
 #[tactic(auto, using(std::proofs::Common::append_assoc))]
 fn put_head(writer: &mut Writer, head: &Head) -> Result<(), AllocError>
-    requires names { head.now.names.now ≡ map column_name head.now.columns.now }
+    requires names { head.now.names.now ≡ map column_name head.now.schema.now.columns }
     requires counts { counts_fit head.now.counts ≡ true }
-    ensures { Appends result writer.old writer.new (head_tokens head.now.of head.now.unit
-        head.now.columns.now head.now.rows head.now.counts) }
+    ensures { Appends result writer.old writer.new (head_tokens head.now.schema.now
+        head.now.unit head.now.rows head.now.counts) }
 {
-    put_start(writer, head.of, head.unit, head.columns, head.names)?;
+    put_start(writer, head.schema, head.unit, head.names)?;
     writer.key("rows")?;
     writer.u64(head.rows)?;
     put_counts(writer, &head.counts)?;
     writer.end_object()
 }
 
-/// A text with the line of a row behind it, of a table by columns of these names.
+/// A text with the line of a row behind it, of a table of this schema, whose columns have these names.
 #[tactic(auto, unfolding(crate::specs::Json::json_line))]
 pub fn with_json_row(
     out: Vec<u8>,
-    of: Of,
-    columns: &[Column],
+    schema: &Schema,
     names: &[Text],
     row: &Row,
 ) -> Result<Vec<u8>, AllocError>
-    requires names { names.now ≡ map column_name columns.now }
+    requires names { names.now ≡ map column_name schema.now.columns }
     requires fits { fit row.now.sums ≡ true }
-    ensures line { IfOk result (λ new. new.items ≡ out.items ++ json_line of columns.now row.now) }
-    ensures utf8 { OnOk result (IsUtf8 (json_line of columns.now row.now)) }
-    ensures key_fits { OnOk result (KeyFits columns.now row.now.key) }
+    ensures line { IfOk result (λ new. new.items ≡ out.items ++ json_line schema.now row.now) }
+    ensures utf8 { OnOk result (IsUtf8 (json_line schema.now row.now)) }
+    ensures key_fits { OnOk result (KeyFits schema.now.columns row.now.key) }
 {
     let mut writer = Writer::new(out);
-    put_row(&mut writer, of, columns, names, row)?;
+    put_row(&mut writer, schema, names, row)?;
     ended(writer)
 }
 
 #[tactic(auto, using(std::proofs::Common::append_assoc))]
 fn put_row(
     writer: &mut Writer,
-    of: Of,
-    columns: &[Column],
+    schema: &Schema,
     names: &[Text],
     row: &Row,
 ) -> Result<(), AllocError>
-    requires names { names.now ≡ map column_name columns.now }
+    requires names { names.now ≡ map column_name schema.now.columns }
     requires fits { fit row.now.sums ≡ true }
-    ensures tokens { Appends result writer.old writer.new (row_tokens of columns.now row.now) }
-    ensures key_fits { OnOk result (KeyFits columns.now row.now.key) }
+    ensures tokens { Appends result writer.old writer.new (row_tokens schema.now row.now) }
+    ensures key_fits { OnOk result (KeyFits schema.now.columns row.now.key) }
 {
     writer.begin_object()?;
-    put_key(writer, columns, names, row.key.values())?;
-    put_numbers(writer, of.numbers(), &row.sums)?;
+    put_key(writer, &schema.columns, names, row.key.values())?;
+    put_numbers(writer, &schema.numbers, &row.sums)?;
     writer.end_object()
 }

@@ -1,11 +1,11 @@
 //! What the lines for other programs are made of, each of which is written by a writer of its own.
 ghost use Rattle.std.specs.Prelude.{◌≡◌, ◌<◌, ◌^◌, ◌++◌, ◌∷◌, [], true, map, IfOk, IsUtf8, OnOk, Some};
 ghost use Rattle.json.specs.Token.{key, string};
-ghost use Rattle.span_table_text.specs.{column_name, counts_fit, entry_counts_fit, fit, Printed.{IsOfArgument, KeyFits}, Tokens.{Appends, counts_tokens, entry_counts_tokens, key_tokens, number_tokens, of_tokens, start_tokens, sums_tokens, token_line, unit_tokens, value_tokens}};
+ghost use Rattle.span_table_text.specs.{column_name, counts_fit, entry_counts_fit, fit, number_name, Printed.{IsOfArgument, KeyFits}, Tokens.{Appends, counts_tokens, entry_counts_tokens, key_tokens, list_tokens, number_tokens, of_tokens, start_tokens, sums_tokens, token_line, unit_tokens, value_tokens}};
 
 use json::Writer;
 use span_event::{ArgValue, Text, Unit};
-use span_table::{Column, EntryCounts, Number, Of, Sums, TableCounts};
+use span_table::{Audience, Column, EntryCounts, Number, Of, Schema, Sums, TableCounts, are_same};
 use std::alloc::{AllocError, Global};
 
 /// What these columns are called.
@@ -31,27 +31,49 @@ pub fn ended(writer: Writer) -> Result<Vec<u8>, AllocError>
     }
 }
 
-/// Writes a first line up to its columns, which have these names.
+/// Writes what a first line says of a schema, whose columns have these names.
 #[tactic(auto, using(std::proofs::Common::append_assoc))]
 pub fn put_start(
     writer: &mut Writer,
-    of: Of,
+    schema: &Schema,
     unit: Unit,
-    columns: &[Column],
     names: &[Text],
 ) -> Result<(), AllocError>
-    requires { names.now ≡ map column_name columns.now }
-    ensures { Appends result writer.old writer.new (start_tokens of unit columns.now []) }
+    requires { names.now ≡ map column_name schema.now.columns }
+    ensures { Appends result writer.old writer.new (start_tokens schema.now unit []) }
 {
     writer.begin_object()?;
     writer.key("tracebook")?;
     writer.u64(1)?;
-    put_of(writer, of)?;
+    put_of(writer, schema.of)?;
     put_unit(writer, unit)?;
     writer.key("columns")?;
     writer.begin_array()?;
     put_names(writer, names)?;
+    writer.end_array()?;
+    put_list(writer, schema)
+}
+
+// Writes the numbers of rows, where they aren't the usual ones.
+fn put_list(writer: &mut Writer, schema: &Schema) -> Result<(), AllocError>
+    ensures { Appends result writer.old writer.new (list_tokens schema.now []) }
+{
+    if are_same(&schema.numbers, schema.of.numbers(Audience::Programs)) {
+        return Ok(());
+    }
+    writer.key("numbers")?;
+    writer.begin_array()?;
+    put_number_names(writer, &schema.numbers)?;
     writer.end_array()
+}
+
+fn put_number_names(writer: &mut Writer, numbers: &[Number]) -> Result<(), AllocError>
+    ensures { Appends result writer.old writer.new (map string (map number_name numbers.now)) }
+{
+    for number in numbers {
+        writer.string(number.name())?;
+    }
+    Ok(())
 }
 
 fn put_of(writer: &mut Writer, of: Of) -> Result<(), AllocError>

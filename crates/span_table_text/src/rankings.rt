@@ -7,7 +7,7 @@ use crate::rows::{number_titles, put_row, put_titles, value_cells};
 use crate::shown::{Shown, ShownRow};
 use span_event::Unit;
 use span_report::{first_line, put_unit};
-use span_table::{EntryCounts, Number, Of, Table};
+use span_table::{EntryCounts, Number, Schema, Table};
 use std::alloc::{AllocError, Global};
 use std::cmp::Ordering;
 
@@ -34,11 +34,11 @@ pub fn ranking(
         rows.len() as u128,
         table.rows().len() as u128,
     )?;
-    let of = table.kind();
-    let titles = number_titles(alloc, of.ranked())?;
-    put_titles(alloc, &mut out, &titles, table.columns())?;
+    let schema = table.schema();
+    let titles = number_titles(alloc, &schema.numbers)?;
+    put_titles(alloc, &mut out, &titles, &schema.columns)?;
     let first = first_ranked(&mut rows, by, most as usize);
-    put_rows(alloc, &mut out, of, first)?;
+    put_rows(alloc, &mut out, schema, first)?;
     Ok(out.into_bytes())
 }
 
@@ -80,12 +80,17 @@ fn first_ranked<'r, 'a>(
     first
 }
 
-fn put_rows(alloc: Global, out: &mut String, of: Of, rows: &[ShownRow]) -> Result<(), AllocError>
+fn put_rows(
+    alloc: Global,
+    out: &mut String,
+    schema: &Schema,
+    rows: &[ShownRow],
+) -> Result<(), AllocError>
     ensures { OnOk result (string_bytes out.new
-        ≡ string_bytes out.old ++ flat_map (ranked_line of) rows.now) }
+        ≡ string_bytes out.old ++ flat_map (ranked_line schema.now) rows.now) }
 {
     for ranked in rows {
-        let cells = value_cells(alloc, of.ranked(), &ranked.row.sums)?;
+        let cells = value_cells(alloc, &schema.numbers, &ranked.row.sums)?;
         put_row(alloc, out, &cells, &ranked.row.key)?;
     }
     Ok(())

@@ -8,6 +8,6 @@ pub returns : goal.returns
 returns c =
     let head = c.args.head.now in
     let numbers = Follow-append (Follow-append (Follow-one c.in_ok-key.ensures) (Follow-one c.in_ok-u64.ensures)) c.in_ok-put_counts.ensures in
-    subst (Appends c.end_object.result c.args.writer.now c.end_object.new.self) (append_assoc (start_tokens head.of head.unit head.columns.now []) (numbers_tokens head.rows head.counts) (end_object ∷ [])
-    ∙ start_tokens-append head.of head.unit head.columns.now (numbers_tokens head.rows head.counts ++ end_object ∷ []))
+    subst (Appends c.end_object.result c.args.writer.now c.end_object.new.self) (append_assoc (start_tokens head.schema.now head.unit []) (numbers_tokens head.rows head.counts) (end_object ∷ [])
+    ∙ start_tokens-append head.schema.now head.unit (numbers_tokens head.rows head.counts ++ end_object ∷ []))
     (Appends-one c.end_object.result (Follow-append c.in_ok-put_start.ensures numbers) c.end_object.ensures)

@@ -6,7 +6,7 @@ use Rattle.span_table_text.proofs.json_lines.text_of.Given as goal
 -- the first line, and the lines of those so far, whose keys fit
 abbrev pub invariant-loop-shown : goal.invariant-loop-shown
 invariant-loop-shown l = record {
-  text : l.out.items ≡ json_head l.table.of l.fn.unit l.table.columns (length l.rows) l.table.counts ++ flat_map (json_line l.table.of l.table.columns) (take l.shown-index l.rows);
+  text : l.out.items ≡ json_head l.table.schema l.fn.unit (length l.rows) l.table.counts ++ flat_map (json_line l.table.schema) (take l.shown-index l.rows);
   utf8 : IsUtf8 l.out.items;
-  keys : All (λ row. KeyFits l.table.columns row.key) (take l.shown-index l.rows);
+  keys : All (λ row. KeyFits l.table.schema.columns row.key) (take l.shown-index l.rows);
 }
