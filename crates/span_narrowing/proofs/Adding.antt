@@ -4,7 +4,7 @@ use Rattle.std.proofs.{Common.{◌≡◌, ◌∙◌, ◌-◌, Bool, cond, List, 
 use Rattle.span_table.specs.{KeyLaws.{key_cmp_total, key_cmp-same}, declared.{table.Row.Row}, Tables.counts_together}
 use Rattle.span_table.proofs.{AddedTables.{add_tables-table_of, regrouped, rows-back, rows-regrouped, rows_of-alike, table_of-moved}, Alike.{AddUpAlike-flat_map, AddUpAlike-grouped}, OwnRows.rows_of-own, Rows.RowsRise-rows_of, Tallies.under}
 use Rattle.span_table_text.proofs.ShownSums.{rows_of-passing}
-use Rattle.span_narrowing.specs.{Column, Keyed, KeyedSums, Run, SpanTable, Sums, TableKey, add_tables, keyed_rows, rows_of, table_of, Laws.{NarrowingAdds, NarrowingHasNoOrder, NarrowingLosesNothing}, Narrowed.{narrowed, narrowed_key, narrowed_sums, shown_of, summed_by}, declared.{conditions.Condition.Condition, narrowing.Narrowing.Narrowing}}
+use Rattle.span_narrowing.specs.{Column, Keyed, KeyedSums, Run, SpanTable, Sums, TableKey, add_tables, keyed_rows, rows_of, table_of, Laws.{NarrowingAdds, NarrowingHasNoOrder, NarrowingLosesNothing}, Narrowed.{narrowed, narrowed_key, narrowed_sums, shown_of, summed_by, summed_schema}, declared.{conditions.Condition.Condition, narrowing.Narrowing.Narrowing}}
 
 -- sums under other keys: where they have the same rows, they have the same ones under these
 module _ (g : TableKey → TableKey) where
@@ -62,28 +62,28 @@ module _ (narrowing : Narrowing) (columns : List Column) where
 
   -- all of these tables have those of the conditions too
   abbrev Have : List SpanTable → Type 0
-  Have tables = All (λ (table : SpanTable). table.columns ≡ own) tables
+  Have tables = All (λ (table : SpanTable). table.schema.columns ≡ own) tables
 
-  each-kept : (tables : List SpanTable) → Have tables → flat_map (λ (table : SpanTable). filter_map (narrowed_sums narrowing table.columns) (sums table)) tables ≡ kept (flat_map sums tables)
+  each-kept : (tables : List SpanTable) → Have tables → flat_map (λ (table : SpanTable). filter_map (narrowed_sums narrowing table.schema.columns) (sums table)) tables ≡ kept (flat_map sums tables)
   each-kept [] have = refl
   each-kept (table ∷ tables) have =
-      ap₂ (λ (l : List Column) (more : KeyedSums). filter_map (narrowed_sums narrowing l) (sums table) ++ more) (All-head (λ (t : SpanTable). t.columns ≡ own) table tables have)
-      (each-kept tables (All-tail (λ (t : SpanTable). t.columns ≡ own) table tables have))
+      ap₂ (λ (l : List Column) (more : KeyedSums). filter_map (narrowed_sums narrowing l) (sums table) ++ more) (All-head (λ (t : SpanTable). t.schema.columns ≡ own) table tables have)
+      (each-kept tables (All-tail (λ (t : SpanTable). t.schema.columns ≡ own) table tables have))
       ∙ sym (filter_map-append (narrowed_sums narrowing own) (sums table) (flat_map sums tables))
 
-  flat_map-narrowed : (tables : List SpanTable) → flat_map sums (map (narrowed narrowing) tables) ≡ flat_map (λ (table : SpanTable). keyed_rows (rows_of (filter_map (narrowed_sums narrowing table.columns) (sums table)))) tables
+  flat_map-narrowed : (tables : List SpanTable) → flat_map sums (map (narrowed narrowing) tables) ≡ flat_map (λ (table : SpanTable). keyed_rows (rows_of (filter_map (narrowed_sums narrowing table.schema.columns) (sums table)))) tables
   unfolding narrowed
   flat_map-narrowed [] = refl
-  flat_map-narrowed (table ∷ tables) = ap (λ l. keyed_rows (rows_of (filter_map (narrowed_sums narrowing table.columns) (sums table))) ++ l) (flat_map-narrowed tables)
+  flat_map-narrowed (table ∷ tables) = ap (λ l. keyed_rows (rows_of (filter_map (narrowed_sums narrowing table.schema.columns) (sums table))) ++ l) (flat_map-narrowed tables)
 
   -- the rows of tables that are narrowed, added, are the narrowed rows of tables that are added
   rows-narrowed : (tables : List SpanTable) → Have tables → rows_of (flat_map sums (map (narrowed narrowing) tables)) ≡ rows_of (kept (keyed_rows (rows_of (flat_map sums tables))))
   rows-narrowed tables have =
       ap rows_of (flat_map-narrowed tables)
-      ∙ rows_of-alike (flat_map (λ (table : SpanTable). keyed_rows (rows_of (filter_map (narrowed_sums narrowing table.columns) (sums table)))) tables)
-      (flat_map (λ (table : SpanTable). filter_map (narrowed_sums narrowing table.columns) (sums table)) tables)
-      (AddUpAlike-flat_map (λ (table : SpanTable). keyed_rows (rows_of (filter_map (narrowed_sums narrowing table.columns) (sums table))))
-      (λ (table : SpanTable). filter_map (narrowed_sums narrowing table.columns) (sums table)) (λ table. rows-back (filter_map (narrowed_sums narrowing table.columns) (sums table))) tables)
+      ∙ rows_of-alike (flat_map (λ (table : SpanTable). keyed_rows (rows_of (filter_map (narrowed_sums narrowing table.schema.columns) (sums table)))) tables)
+      (flat_map (λ (table : SpanTable). filter_map (narrowed_sums narrowing table.schema.columns) (sums table)) tables)
+      (AddUpAlike-flat_map (λ (table : SpanTable). keyed_rows (rows_of (filter_map (narrowed_sums narrowing table.schema.columns) (sums table))))
+      (λ (table : SpanTable). filter_map (narrowed_sums narrowing table.schema.columns) (sums table)) (λ table. rows-back (filter_map (narrowed_sums narrowing table.schema.columns) (sums table))) tables)
       ∙ ap rows_of (each-kept tables have)
       ∙ become-same (narrowed_key narrowing own) (flat_map sums tables) (keyed_rows (rows_of (flat_map sums tables)))
       (sym (rows_of-own (rows_of (flat_map sums tables)) (RowsRise-rows_of (flat_map sums tables))))
@@ -96,24 +96,23 @@ module _ (narrowing : Narrowing) (columns : List Column) where
 -- narrowed and then added, as added and then narrowed
 pub narrowed-added : NarrowingAdds
 unfolding narrowed
-narrowed-added narrowing of columns tables have = λ i. record {
-  of = of;
-  columns = sym (shown-own narrowing columns) i;
-  counts = counts_together (counts-narrowed narrowing columns tables i);
-  rows = rows-narrowed narrowing columns tables have i;
+narrowed-added narrowing schema tables have = λ i. record {
+  schema = record { of = schema.of; columns = sym (shown-own narrowing schema.columns) i; numbers = schema.numbers };
+  counts = counts_together (counts-narrowed narrowing schema.columns tables i);
+  rows = rows-narrowed narrowing schema.columns tables have i;
 }
 
 -- of runs
 pub narrowed-together : NarrowingLosesNothing
-narrowed-together narrowing of columns lists =
-    ap (add_tables of columns) (sym (map-map (narrowed narrowing) (table_of of (summed_by columns narrowing)) lists))
-    ∙ narrowed-added narrowing of columns (map (table_of of (summed_by columns narrowing)) lists) (have lists)
-    ∙ ap (narrowed narrowing) (add_tables-table_of of (summed_by columns narrowing) lists)
+narrowed-together narrowing schema lists =
+    ap (add_tables schema) (sym (map-map (narrowed narrowing) (table_of (summed_schema schema narrowing)) lists))
+    ∙ narrowed-added narrowing schema (map (table_of (summed_schema schema narrowing)) lists) (have lists)
+    ∙ ap (narrowed narrowing) (add_tables-table_of (summed_schema schema narrowing) lists)
   where
-    have : (lists : List (List Run)) → All (λ (table : SpanTable). table.columns ≡ summed_by columns narrowing) (map (table_of of (summed_by columns narrowing)) lists)
-    have [] = All-nil (λ (table : SpanTable). table.columns ≡ summed_by columns narrowing)
-    have (list ∷ lists) = All-cons (λ (table : SpanTable). table.columns ≡ summed_by columns narrowing) (table_of of (summed_by columns narrowing) list) (map (table_of of (summed_by columns narrowing)) lists) refl (have lists)
+    have : (lists : List (List Run)) → All (λ (table : SpanTable). table.schema.columns ≡ summed_by schema.columns narrowing) (map (table_of (summed_schema schema narrowing)) lists)
+    have [] = All-nil (λ (table : SpanTable). table.schema.columns ≡ summed_by schema.columns narrowing)
+    have (list ∷ lists) = All-cons (λ (table : SpanTable). table.schema.columns ≡ summed_by schema.columns narrowing) (table_of (summed_schema schema narrowing) list) (map (table_of (summed_schema schema narrowing)) lists) refl (have lists)
 
 -- and in whatever order
 pub narrowed-moved : NarrowingHasNoOrder
-narrowed-moved narrowing of columns runs other permuted = ap (narrowed narrowing) (table_of-moved of (summed_by columns narrowing) runs other permuted)
+narrowed-moved narrowing schema runs other permuted = ap (narrowed narrowing) (table_of-moved (summed_schema schema narrowing) runs other permuted)

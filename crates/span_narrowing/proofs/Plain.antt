@@ -39,10 +39,10 @@ module _ (narrowing : Narrowing) (is : is_plain narrowing ≡ true) where
 -- a table stays as it is
 pub narrowed-plain : PlainChangesNothing
 unfolding narrowed
-narrowed-plain narrowing table is rise = λ i. record { of = table.of; columns = columns i; counts = table.counts; rows = rows i }
+narrowed-plain narrowing table is rise = λ i. record { schema = record { of = table.schema.of; columns = columns i; numbers = table.schema.numbers }; counts = table.counts; rows = rows i }
   where
-    columns : take (shown_of narrowing.conditions.items table.columns) table.columns ≡ table.columns
-    columns = ap (λ (conditions : List Condition). take (shown_of conditions table.columns) table.columns) (no-conditions narrowing is) ∙ all-shown table.columns
+    columns : take (shown_of narrowing.conditions.items table.schema.columns) table.schema.columns ≡ table.schema.columns
+    columns = ap (λ (conditions : List Condition). take (shown_of conditions table.schema.columns) table.schema.columns) (no-conditions narrowing is) ∙ all-shown table.schema.columns
 
-    rows : rows_of (filter_map (narrowed_sums narrowing table.columns) (keyed_rows table.rows)) ≡ table.rows
-    rows = ap rows_of (narrowed_sums-plain narrowing is table.columns (keyed_rows table.rows)) ∙ rows_of-own table.rows rise
+    rows : rows_of (filter_map (narrowed_sums narrowing table.schema.columns) (keyed_rows table.rows)) ≡ table.rows
+    rows = ap rows_of (narrowed_sums-plain narrowing is table.schema.columns (keyed_rows table.rows)) ∙ rows_of-own table.rows rise

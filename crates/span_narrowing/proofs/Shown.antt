@@ -3,44 +3,44 @@ use Rattle.std.specs.{List.cons_option, Option.option_map, Prelude.{filter_map}}
 use Rattle.std.proofs.{Common.{◌≡◌, ◌∙◌, ◌+◌, ◌<◌, ◌++◌, ℕ, List, [], ◌∷◌, Option, Some, None, ap, append-nil, get_or, length, sym, take}, Math.Seq.take-length, lemmas.List.{map-append, take_more, Elements.filter_map-append}}
 use Rattle.span_table.specs.{Adding.{keyed_row, with_row}, declared.table.Row.Row}
 use Rattle.span_table.proofs.AddedTables.{rows-then}
-use Rattle.span_narrowing.specs.{Keyed, KeyedSums, SpanTable, Sums, TableKey, keyed_rows, Narrowed.{narrowed_key, narrowed_sums, shown_with}, declared.narrowing.Narrowing.Narrowing}
+use Rattle.span_narrowing.specs.{Keyed, KeyedSums, SpanTable, Sums, TableKey, keyed_rows, Narrowed.{narrowed_key, narrowed_sums, shown_schema, shown_with}, declared.narrowing.Narrowing.Narrowing}
 
 module _ (narrowing : Narrowing) (table : SpanTable) where
   -- what the first rows have in the narrowed table
   abbrev pub first_sums : ℕ → KeyedSums
-  first_sums n = filter_map (narrowed_sums narrowing table.columns) (keyed_rows (take n table.rows))
+  first_sums n = filter_map (narrowed_sums narrowing table.schema.columns) (keyed_rows (take n table.rows))
 
   -- a row added is one sum more
   shown_with-row : (sums : KeyedSums) (row : Row) → with_row (shown_with narrowing table sums) row ≡ shown_with narrowing table (sums ++ keyed_row row ∷ [])
   shown_with-row sums row =
-      λ i. record { of = table.of; columns = (shown_with narrowing table sums).columns; counts = table.counts; rows = rows-then sums (keyed_row row ∷ []) i }
+      λ i. record { schema = shown_schema narrowing table.schema; counts = table.counts; rows = rows-then sums (keyed_row row ∷ []) i }
 
   module _ (n : ℕ) (row : Row) (low : n < length table.rows) (at : row ≡ get_or table.rows n row) where
     -- the sums of one more row, under the key that it has then
     abbrev own_sums : Option TableKey → List (Keyed TableKey Sums)
     own_sums found = cons_option (option_map (λ (key : TableKey). record { key = key; step = row.sums }) found) []
 
-    first_sums-next : (found : Option TableKey) → found ≡ narrowed_key narrowing table.columns row.key → first_sums (n + 1) ≡ first_sums n ++ own_sums found
+    first_sums-next : (found : Option TableKey) → found ≡ narrowed_key narrowing table.schema.columns row.key → first_sums (n + 1) ≡ first_sums n ++ own_sums found
     first_sums-next found is =
-        ap (filter_map (narrowed_sums narrowing table.columns))
+        ap (filter_map (narrowed_sums narrowing table.schema.columns))
         (ap keyed_rows (take_more table.rows n row low) ∙ map-append keyed_row (take n table.rows) (get_or table.rows n row ∷ []))
-        ∙ filter_map-append (narrowed_sums narrowing table.columns) (keyed_rows (take n table.rows)) (keyed_row (get_or table.rows n row) ∷ [])
-        ∙ ap (λ (r : Row). first_sums n ++ cons_option (narrowed_sums narrowing table.columns (keyed_row r)) []) (sym at)
+        ∙ filter_map-append (narrowed_sums narrowing table.schema.columns) (keyed_rows (take n table.rows)) (keyed_row (get_or table.rows n row) ∷ [])
+        ∙ ap (λ (r : Row). first_sums n ++ cons_option (narrowed_sums narrowing table.schema.columns (keyed_row r)) []) (sym at)
         ∙ ap (λ (o : Option TableKey). first_sums n ++ own_sums o) (sym is)
 
     -- a row of which all conditions hold is added
-    pub first_sums-kept : (key : TableKey) (old new : SpanTable) → Some key ≡ narrowed_key narrowing table.columns row.key → old ≡ shown_with narrowing table (first_sums n)
+    pub first_sums-kept : (key : TableKey) (old new : SpanTable) → Some key ≡ narrowed_key narrowing table.schema.columns row.key → old ≡ shown_with narrowing table (first_sums n)
         → new ≡ with_row old (record { key = key; sums = row.sums }) → new ≡ shown_with narrowing table (first_sums (n + 1))
     first_sums-kept key old new is was adds =
         adds ∙ ap (λ (t : SpanTable). with_row t (record { key = key; sums = row.sums })) was ∙ shown_with-row (first_sums n) (record { key = key; sums = row.sums })
         ∙ ap (shown_with narrowing table) (sym (first_sums-next (Some key) is))
 
     -- another one is left out
-    pub first_sums-left : (old : SpanTable) → None ≡ narrowed_key narrowing table.columns row.key → old ≡ shown_with narrowing table (first_sums n)
+    pub first_sums-left : (old : SpanTable) → None ≡ narrowed_key narrowing table.schema.columns row.key → old ≡ shown_with narrowing table (first_sums n)
         → old ≡ shown_with narrowing table (first_sums (n + 1))
     first_sums-left old is was =
         was ∙ ap (shown_with narrowing table) (sym (append-nil (first_sums n)) ∙ sym (first_sums-next None is))
 
   -- all rows
-  pub first_sums-all : first_sums (length table.rows) ≡ filter_map (narrowed_sums narrowing table.columns) (keyed_rows table.rows)
-  first_sums-all = ap (λ (rows : List Row). filter_map (narrowed_sums narrowing table.columns) (keyed_rows rows)) (take-length table.rows)
+  pub first_sums-all : first_sums (length table.rows) ≡ filter_map (narrowed_sums narrowing table.schema.columns) (keyed_rows table.rows)
+  first_sums-all = ap (λ (rows : List Row). filter_map (narrowed_sums narrowing table.schema.columns) (keyed_rows rows)) (take-length table.rows)

@@ -4,7 +4,7 @@ use Rattle.std.proofs.{Common.{◌≡◌, ◌∙◌, ◌-◌, ℕ, zero, suc, Bo
 use Rattle.span_table_text.specs.Printed.{IsOfArgument, MayHave}
 use Rattle.span_table_text.proofs.RunTables.{HasRows, HasRows-rows_of, MayBeKey, Suits, row_sums}
 use Rattle.template_names.specs.Merged.{merged}
-use Rattle.span_narrowing.specs.{Bytes, Nil, Flag, Whole, Words, Other, Column, Keyed, KeyedSums, Of, SpanTable, Sums, TableKey, Value, keyed_rows, Conditions.all_hold, Narrowed.{kept_key, merged_value, merged_values, narrowed, narrowed_key, narrowed_sums, shown_of, summed_by, with_merged_text}, declared.{conditions.Condition.Condition, narrowing.Narrowing.Narrowing}}
+use Rattle.span_narrowing.specs.{Bytes, Nil, Flag, Whole, Words, Other, Column, Keyed, KeyedSums, Schema, SpanTable, Sums, TableKey, Value, keyed_rows, Conditions.all_hold, Narrowed.{kept_key, merged_value, merged_values, narrowed, narrowed_key, narrowed_sums, shown_of, shown_schema, summed_schema, with_merged_text}, declared.{conditions.Condition.Condition, narrowing.Narrowing.Narrowing}}
 use Rattle.span_table.specs.declared.column.Column.TheVariants as each
 
 -- a column that may have any text may have a merged one
@@ -66,34 +66,37 @@ narrowed_key-may narrowing columns key found may kept = by narrowing.merges kept
     by true e = kept_key-may narrowing.conditions.items columns (merged_values columns key) found (merged_values-may columns key may) e
     by false e = kept_key-may narrowing.conditions.items columns key found may e
 
-module _ (narrowing : Narrowing) (of : Of) (columns : List Column) where
-  abbrev shown : List Column
-  shown = take (shown_of narrowing.conditions.items columns) columns
+module _ (narrowing : Narrowing) (schema : Schema) where
+  abbrev shown : Schema
+  shown = shown_schema narrowing schema
 
   -- sums that suit a table suit it once they are narrowed
-  narrowed_sums-Suits : (sums : KeyedSums) → All (Suits of columns) sums → All (Suits of shown) (filter_map (narrowed_sums narrowing columns) sums)
-  narrowed_sums-Suits [] all = All-nil (Suits of shown)
+  narrowed_sums-Suits : (sums : KeyedSums) → All (Suits schema) sums → All (Suits shown) (filter_map (narrowed_sums narrowing schema.columns) sums)
+  narrowed_sums-Suits [] all = All-nil (Suits shown)
   narrowed_sums-Suits (own ∷ sums) all =
-      by (narrowed_key narrowing columns own.key) refl (All-head (Suits of columns) own sums all) (narrowed_sums-Suits sums (All-tail (Suits of columns) own sums all))
+      by (narrowed_key narrowing schema.columns own.key) refl (All-head (Suits schema) own sums all) (narrowed_sums-Suits sums (All-tail (Suits schema) own sums all))
     where
-      by : (found : Option TableKey) → narrowed_key narrowing columns own.key ≡ found → Suits of columns own → All (Suits of shown) (filter_map (narrowed_sums narrowing columns) sums) →
-          All (Suits of shown) (cons_option (option_map (λ (key : TableKey). record { key = key; step = own.step }) found) (filter_map (narrowed_sums narrowing columns) sums))
+      by : (found : Option TableKey) → narrowed_key narrowing schema.columns own.key ≡ found → Suits schema own → All (Suits shown) (filter_map (narrowed_sums narrowing schema.columns) sums) →
+          All (Suits shown) (cons_option (option_map (λ (key : TableKey). record { key = key; step = own.step }) found) (filter_map (narrowed_sums narrowing schema.columns) sums))
       by None e suits rest = rest
       by (Some key) e suits rest =
-          All-cons (Suits of shown) (record { key = key; step = own.step }) (filter_map (narrowed_sums narrowing columns) sums)
-          (record { key = narrowed_key-may narrowing columns own.key key suits.key e; own = suits.own; some = suits.some }) rest
+          All-cons (Suits shown) (record { key = key; step = own.step }) (filter_map (narrowed_sums narrowing schema.columns) sums)
+          (record { key = narrowed_key-may narrowing schema.columns own.key key suits.key e; own = suits.own; some = suits.some }) rest
 
 pub HasRows-narrowed : (narrowing : Narrowing) (table : SpanTable) → HasRows table → HasRows (narrowed narrowing table)
 unfolding narrowed
 HasRows-narrowed narrowing table has =
-    HasRows-rows_of (narrowed narrowing table) (filter_map (narrowed_sums narrowing table.columns) (keyed_rows table.rows)) refl
-    (narrowed_sums-Suits narrowing table.of table.columns (keyed_rows table.rows) (All-map (Suits table.of table.columns) row_sums table.rows has.each))
+    HasRows-rows_of (narrowed narrowing table) (filter_map (narrowed_sums narrowing table.schema.columns) (keyed_rows table.rows)) refl
+    (narrowed_sums-Suits narrowing table.schema (keyed_rows table.rows) (All-map (Suits table.schema) row_sums table.rows has.each))
 
--- what is narrowed of a table by these columns and those of conditions is by these
-pub narrowed-columns : (narrowing : Narrowing) (columns : List Column) (table : SpanTable) → table.columns ≡ summed_by columns narrowing → (narrowed narrowing table).columns ≡ columns
+-- what is narrowed of a table by some columns and those of conditions is by these
+pub narrowed-schema : (narrowing : Narrowing) (schema : Schema) (table : SpanTable) → table.schema ≡ summed_schema schema narrowing → (narrowed narrowing table).schema ≡ schema
 unfolding narrowed
-narrowed-columns narrowing columns table by =
+narrowed-schema narrowing schema table by =
+    let columns = schema.columns in
     let conditions = narrowing.conditions.items in
     let tested = map (λ (condition : Condition). condition.column) conditions in
     let few : length (columns ++ tested) - length conditions ≡ length columns = omega (arith, length-append columns tested, length-map conditions (λ (condition : Condition). condition.column)) in
-    ap (λ (all : List Column). take (shown_of conditions all) all) by ∙ ap (λ n. take n (columns ++ tested)) few ∙ take-append-le (length columns) columns tested (omega arith) ∙ take_all (length columns) columns (omega arith)
+    let kept : take (shown_of conditions (columns ++ tested)) (columns ++ tested) ≡ columns =
+    ap (λ n. take n (columns ++ tested)) few ∙ take-append-le (length columns) columns tested (omega arith) ∙ take_all (length columns) columns (omega arith) in
+    ap (shown_schema narrowing) by ∙ (λ i. record { of = schema.of; columns = kept i; numbers = schema.numbers })

@@ -5,7 +5,7 @@ ghost use Rattle.span_narrowing.specs.Narrowed.{is_plain, narrowed, shown_with, 
 use crate::conditions::Condition;
 use crate::keys::narrowed_key;
 use span_names::HashKeys;
-use span_table::{Column, Row, SumFault, Table, TableSum, copies_of};
+use span_table::{Column, Row, Schema, SumFault, Table, TableSum, copies_of};
 use std::alloc::{AllocError, Global};
 
 /// How a table is narrowed.
@@ -55,9 +55,10 @@ pub fn narrowed(
     if narrowing.is_plain() {
         return Ok(table);
     }
+    let schema = table.schema();
     let mut sum = begun(alloc, keys, narrowing, &table)?;
     for row in rows {
-        if let Some(key) = narrowed_key(alloc, narrowing, table.columns(), &row.key)? {
+        if let Some(key) = narrowed_key(alloc, narrowing, &schema.columns, &row.key)? {
             let sums = row.sums;
             sum.add_row(&Row { key, sums })?;
         }
@@ -74,9 +75,11 @@ fn begun(
 ) -> Result<TableSum, AllocError>
     ensures { IfOk result (λ sum. sum.table ≡ shown_with narrowing.now table.now []) }
 {
-    let columns = table.columns();
+    let schema = table.schema();
+    let columns = schema.columns.as_slice();
     let shown = columns.len().saturating_sub(narrowing.conditions.len());
-    let mut sum = TableSum::new(alloc, keys, table.kind(), &columns[..shown])?;
+    let of_shown = Schema::new(alloc, schema.of, &columns[..shown], &schema.numbers)?;
+    let mut sum = TableSum::new(alloc, keys, of_shown);
     match sum.add_counts(&table.counts()) {
         Ok(()) => Ok(sum),
         Err(SumFault::Memory) => Err(AllocError),

@@ -2,7 +2,7 @@
 use crate::{Condition, Narrowing, narrowed, summed_by};
 use span_event::{ArgValue, Text};
 use span_names::HashKeys;
-use span_table::{Column, EntryCounts, Key, Of, Row, SumFault, Sums, Table, TableCounts, TableSum};
+use span_table::{Column, EntryCounts, Key, Of, Row, Schema, SumFault, Sums, Table, TableCounts, TableSum};
 use std::alloc::{AllocError, Global};
 use std::test::Fail;
 
@@ -36,7 +36,8 @@ fn row(alloc: Global, name: &str, value: Option<ArgValue>, count: u128) -> Resul
 }
 
 fn table(alloc: Global, columns: &[Column], rows: Vec<Row>) -> Result<Table, SumFault> {
-    let mut sum = TableSum::new(alloc, HashKeys::fixed(), Of::Spans, columns)?;
+    let schema = Schema::usual(alloc, Of::Spans, columns)?;
+    let mut sum = TableSum::new(alloc, HashKeys::fixed(), schema);
     sum.add_counts(&COUNTS)?;
     for row in &rows {
         sum.add_row(row)?;
@@ -166,8 +167,9 @@ fn adds_what_conditions_told_apart(rt: HostRuntime) -> Result<(), Fail> {
     let table = table(alloc, &of_templates(alloc)?, named(alloc)?)?;
     let table = narrowed(alloc, HashKeys::fixed(), &narrowing, table)?;
     assert_eq!(rt; shown(alloc, &table)?.as_str(), "a<char> 7 a<int> 2 ");
-    assert!(rt; table.columns() == [Column::Name].as_slice());
-    assert_eq!(rt; table.kind(), Of::Spans);
+    let schema = table.schema();
+    assert!(rt; schema.columns.as_slice() == [Column::Name].as_slice());
+    assert_eq!(rt; schema.of, Of::Spans);
     assert_eq!(rt; table.counts(), COUNTS);
     Ok(())
 }

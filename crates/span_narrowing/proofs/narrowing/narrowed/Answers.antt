@@ -1,5 +1,5 @@
 use Rattle.std.proofs.{Common.{◌≡◌, ◌∙◌, ◌<◌, ap, arith, get_or, length, sym}, lemmas.Result.IfOk-weaker}
-use Rattle.span_narrowing.specs.{Narrowed.{narrowed, narrowed_key, shown_with}}
+use Rattle.span_narrowing.specs.{Schema, Narrowed.{narrowed, narrowed_key, shown_with}}
 use Rattle.span_narrowing.proofs.{Plain.narrowed-plain, Shown.{first_sums, first_sums-all, first_sums-kept, first_sums-left}}
 use Rattle.span_narrowing.proofs.narrowing.narrowed.Goals.{in-Some+in_ok-add_row, in_default}
 use Rattle.span_narrowing.proofs.narrowing.narrowed.Goals as goal
@@ -15,7 +15,7 @@ loop-row-preserved c =
     let row = c.row-item.result in
     let low : n < length table.rows = omega (arith, ap length c.rows-rows.ensures.rows) in
     let at : row ≡ get_or table.rows n row = c.row-item.is ∙ ap (λ rows. get_or rows n row) c.rows-rows.ensures.rows in
-    let found : c.in_ok-key.field-0 ≡ narrowed_key narrowing table.columns row.key = c.in_ok-key.ensures ∙ ap (λ columns. narrowed_key narrowing columns row.key) c.columns.ensures in
+    let found : c.in_ok-key.field-0 ≡ narrowed_key narrowing table.schema.columns row.key = c.in_ok-key.ensures ∙ ap (λ columns. narrowed_key narrowing columns row.key) (c.deref.ensures.value ∙ ap (λ (schema : Schema). schema.columns) (c.schema.view_is ∙ c.schema-schema.ensures)) in
     elim c.match-branch-3.branch [
       | in-Some+in_ok-add_row w ↦ ap (λ sum. sum.table) w.sum-is
           ∙ first_sums-kept narrowing table n row low at w.in-Some.key c.loop-row.sum.table w.add_row.new.self.table (sym w.in-Some.is ∙ found) c.loop-row.invariant w.in_ok-add_row.ensures.added
