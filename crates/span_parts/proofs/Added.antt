@@ -4,7 +4,7 @@ use Rattle.std.proofs.{Common.{◌≡◌, ◌≢◌, ℕ, ◌+◌, ◌<◌, true
 use Rattle.json.specs.Print.{print}
 use Rattle.span_journal.proofs.Sorted.{AllByRecursion-append}
 use Rattle.span_table_text.proofs.PrintedLines.{IsRowOf-determined, json_line-print, print_row-line}
-use Rattle.span_parts.specs.{Bytes, Column, Of, Row, with_row, json_line, key_cmp_total, key_cmp, IsRowOf, RowsRise, SpanTable, row_tokens, Rows.{AllAdded, AreAdded, AreNoRows, AreRows, IsNextRow, RowFails, RowsFail, comes_after, last_row, row_at}, declared.fault.PartFault.{PartFault, TheVariants.{NotTable, OtherColumns, Memory, TooMany}}}
+use Rattle.span_parts.specs.{Bytes, Row, Choice, Schema, with_row, json_line, key_cmp_total, key_cmp, IsRowOf, RowsRise, SpanTable, row_tokens, Rows.{AllAdded, AreAdded, AreNoRows, AreRows, IsNextRow, RowFails, RowsFail, comes_after, last_row, row_at}, declared.fault.PartFault.{PartFault, TheVariants.{NotTable, OtherColumns, Memory, TooMany}}}
 use Rattle.span_parts.proofs.{Lists.All-at, Summing.with_rows-push}
 
 less : (o : Ordering) → is_lt o ≡ true → o ≡ Less
@@ -41,11 +41,11 @@ last_row-push (first ∷ []) row = refl
 last_row-push (first ∷ (next ∷ rows)) row = last_row-push (next ∷ rows) row
 
 -- no rows are added yet
-pub AreAdded-none : (of : Of) (columns : List Column) (places : List ℕ) (text : List ℕ) (sum : SpanTable) → AreAdded of columns places text text 0 None sum sum
+pub AreAdded-none : (schema : Schema) (choice : Choice) (text : List ℕ) (sum : SpanTable) → AreAdded schema choice text text 0 None sum sum
 unfolding IsStrictlySortedBy
-AreAdded-none of columns places text sum = record {
+AreAdded-none schema choice text sum = record {
   rows = [];
-  each = All-nil (IsRowOf of columns);
+  each = All-nil (IsRowOf schema);
   rise = tt;
   count = refl;
   last = refl;
@@ -59,83 +59,83 @@ abbrev pub EndsLine : Bytes → Bytes → Bytes → Type 0
 EndsLine text line after = (xs ys : Bytes) → text ≡ xs ++ 10 ∷ ys → All (λ byte. byte ≢ 10) xs → (line ≡ xs) × (after ≡ ys)
 
 -- the row of a line, and those of the lines behind it
-record Next (of : Of) (columns : List Column) (line after : Bytes) (last : Option Row) (done all : List Row) : Type 0 where
+record Next (schema : Schema) (line after : Bytes) (last : Option Row) (done all : List Row) : Type 0 where
   pub row : Row
   pub more : List Row
   pub split : all ≡ done ++ row ∷ more
-  pub is : IsNextRow of columns line last row
-  pub lines : after ≡ flat_map (json_line of columns) more
+  pub is : IsNextRow schema line last row
+  pub lines : after ≡ flat_map (json_line schema) more
 
-module _ (of : Of) (columns : List Column) (places : List ℕ) (text rest : Bytes) (done : ℕ) (last : Option Row) (old sum : SpanTable) (added : AreAdded of columns places text rest done last old sum) where
+module _ (schema : Schema) (choice : Choice) (text rest : Bytes) (done : ℕ) (last : Option Row) (old sum : SpanTable) (added : AreAdded schema choice text rest done last old sum) where
   -- what the next line of a text has to be
-  next : (line after : Bytes) → EndsLine rest line after → rest ≡ line ++ 10 ∷ after → (all : List Row) → AreRows of columns text all → Next of columns line after last added.rows all
+  next : (line after : Bytes) → EndsLine rest line after → rest ≡ line ++ 10 ∷ after → (all : List Row) → AreRows schema text all → Next schema line after last added.rows all
   next line after ends split all are = let begin = added.only all are in cases begin.later begin.split begin.lines
     where
-      cases : (later : List Row) → all ≡ added.rows ++ later → rest ≡ flat_map (json_line of columns) later → Next of columns line after last added.rows all
+      cases : (later : List Row) → all ≡ added.rows ++ later → rest ≡ flat_map (json_line schema) later → Next schema line after last added.rows all
       cases [] whole lines = absurd (omega (arith, ap length (sym split ∙ lines), length-append line (10 ∷ after)))
       cases (row ∷ more) whole lines =
-          let fits : IsRowOf of columns row = All-at (IsRowOf of columns) added.rows row more (subst (All (IsRowOf of columns)) whole are.each) in
-          let cut = ends (print (row_tokens of columns row)) (flat_map (json_line of columns) more)
-          (lines ∙ ap (λ l. l ++ flat_map (json_line of columns) more) (json_line-print of columns row) ∙ append_assoc (print (row_tokens of columns row)) (10 ∷ []) (flat_map (json_line of columns) more))
-          (print_row-line of columns row (IsRowOf-determined of columns row fits)) in
+          let fits : IsRowOf schema row = All-at (IsRowOf schema) added.rows row more (subst (All (IsRowOf schema)) whole are.each) in
+          let cut = ends (print (row_tokens schema row)) (flat_map (json_line schema) more)
+          (lines ∙ ap (λ l. l ++ flat_map (json_line schema) more) (json_line-print schema row) ∙ append_assoc (print (row_tokens schema row)) (10 ∷ []) (flat_map (json_line schema) more))
+          (print_row-line schema row (IsRowOf-determined schema row fits)) in
           record {
             row = row;
             more = more;
             split = whole;
             is = (
-              record { fits = fits; printed = ap (λ l. l ++ 10 ∷ []) cut.0 ∙ sym (json_line-print of columns row) },
+              record { fits = fits; printed = ap (λ l. l ++ 10 ∷ []) cut.0 ∙ sym (json_line-print schema row) },
               ap (comes_after row) (sym added.last) ∙ comes_after-rising added.rows row more (subst RowsRise whole are.rise),
             );
             lines = cut.1;
           }
 
   -- there is none, so the text is not that of rows
-  pub AreNoRows-line : (line after : Bytes) → EndsLine rest line after → rest ≡ line ++ 10 ∷ after → ((row : Row) → IsNextRow of columns line last row → ⊥) → (count : ℕ) → AreNoRows of columns text count
+  pub AreNoRows-line : (line after : Bytes) → EndsLine rest line after → rest ≡ line ++ 10 ∷ after → ((row : Row) → IsNextRow schema line last row → ⊥) → (count : ℕ) → AreNoRows schema text count
   AreNoRows-line line after ends split none count = λ all are few. let n = next line after ends split all are in none n.row n.is
 
   -- the row of the next line is added
-  pub AreAdded-push : (line after : Bytes) (row : Row) (new : SpanTable) → EndsLine rest line after → rest ≡ line ++ 10 ∷ after → IsNextRow of columns line last row → ((other : Row) → IsNextRow of columns line last other → row ≡ other) →
-      new ≡ with_row sum (row_at places row) → AreAdded of columns places text after (done + 1) (Some row) old new
+  pub AreAdded-push : (line after : Bytes) (row : Row) (new : SpanTable) → EndsLine rest line after → rest ≡ line ++ 10 ∷ after → IsNextRow schema line last row → ((other : Row) → IsNextRow schema line last other → row ≡ other) →
+      new ≡ with_row sum (row_at choice row) → AreAdded schema choice text after (done + 1) (Some row) old new
   AreAdded-push line after row new ends split is only adds = record {
     rows = added.rows ++ row ∷ [];
-    each = All-push (IsRowOf of columns) added.rows row added.each is.0.fits;
+    each = All-push (IsRowOf schema) added.rows row added.each is.0.fits;
     rise = RowsRise-push added.rows row added.rise (ap (comes_after row) added.last ∙ is.1);
     count = length-append added.rows (row ∷ []) ∙ ap (λ n. n + 1) added.count;
     last = last_row-push added.rows row;
-    read = added.read ∙ ap (λ l. flat_map (json_line of columns) added.rows ++ l) (split ∙ sym (append_assoc line (10 ∷ []) after) ∙ ap (λ l. l ++ after) is.0.printed)
-        ∙ sym (append_assoc (flat_map (json_line of columns) added.rows) (json_line of columns row) after)
-        ∙ ap (λ l. l ++ after) (ap (λ l. flat_map (json_line of columns) added.rows ++ l) (sym (append-nil (json_line of columns row))) ∙ sym (flat_map-append (json_line of columns) added.rows (row ∷ [])));
+    read = added.read ∙ ap (λ l. flat_map (json_line schema) added.rows ++ l) (split ∙ sym (append_assoc line (10 ∷ []) after) ∙ ap (λ l. l ++ after) is.0.printed)
+        ∙ sym (append_assoc (flat_map (json_line schema) added.rows) (json_line schema row) after)
+        ∙ ap (λ l. l ++ after) (ap (λ l. flat_map (json_line schema) added.rows ++ l) (sym (append-nil (json_line schema row))) ∙ sym (flat_map-append (json_line schema) added.rows (row ∷ [])));
     only = λ all are. let n = next line after ends split all are in record {
       later = n.more;
       split = n.split ∙ ap (λ r. added.rows ++ r ∷ n.more) (sym (only n.row n.is)) ∙ sym (append_assoc added.rows (row ∷ []) n.more);
       lines = n.lines;
     };
-    sum = adds ∙ ap (λ t. with_row t (row_at places row)) added.sum ∙ sym (with_rows-push places added.rows row old);
+    sum = adds ∙ ap (λ t. with_row t (row_at choice row)) added.sum ∙ sym (with_rows-push choice added.rows row old);
   }
 
   -- no line is left, and there are as many rows as there are to be
-  pub AllAdded-end : (count : ℕ) → rest ≡ [] → done ≡ count → AllAdded of columns places text count old sum
+  pub AllAdded-end : (count : ℕ) → rest ≡ [] → done ≡ count → AllAdded schema choice text count old sum
   AllAdded-end count end same = record {
     rows = added.rows;
-    are = record { each = added.each; rise = added.rise; lines = added.read ∙ ap (λ l. flat_map (json_line of columns) added.rows ++ l) end ∙ append-nil (flat_map (json_line of columns) added.rows) };
+    are = record { each = added.each; rise = added.rise; lines = added.read ∙ ap (λ l. flat_map (json_line schema) added.rows ++ l) end ∙ append-nil (flat_map (json_line schema) added.rows) };
     so_many = added.count ∙ same;
     sum = added.sum;
   }
 
   -- no line ends any more, and either something is left or there are not as many rows as there are to be
-  pub AreNoRows-rest : (count : ℕ) → ((i : ℕ) → i < length rest → get_or rest i 0 ≢ 10) → (rest ≡ [] → done ≡ count → ⊥) → AreNoRows of columns text count
+  pub AreNoRows-rest : (count : ℕ) → ((i : ℕ) → i < length rest → get_or rest i 0 ≢ 10) → (rest ≡ [] → done ≡ count → ⊥) → AreNoRows schema text count
   AreNoRows-rest count none end all are few = let begin = added.only all are in cases begin.later begin.split begin.lines
     where
-      cases : (later : List Row) → all ≡ added.rows ++ later → rest ≡ flat_map (json_line of columns) later → ⊥
+      cases : (later : List Row) → all ≡ added.rows ++ later → rest ≡ flat_map (json_line schema) later → ⊥
       cases [] whole lines = end lines (sym added.count ∙ ap length (sym (append-nil added.rows) ∙ sym whole) ∙ few)
       cases (row ∷ more) whole lines =
-          let line : Bytes = print (row_tokens of columns row) in
-          let after : Bytes = flat_map (json_line of columns) more in
-          let is : rest ≡ line ++ 10 ∷ after = lines ∙ ap (λ l. l ++ after) (json_line-print of columns row) ∙ append_assoc line (10 ∷ []) after in
+          let line : Bytes = print (row_tokens schema row) in
+          let after : Bytes = flat_map (json_line schema) more in
+          let is : rest ≡ line ++ 10 ∷ after = lines ∙ ap (λ l. l ++ after) (json_line-print schema row) ∙ append_assoc line (10 ∷ []) after in
           none (length line) (omega (arith, ap length is, length-append line (10 ∷ after))) (ap (λ l. get_or l (length line) 0) is ∙ get_or-append_seam line 10 after 0)
 
   -- why the next row is none
-  pub RowsFail-row : (line after : Bytes) (count : ℕ) (fault : PartFault) → EndsLine rest line after → rest ≡ line ++ 10 ∷ after → RowFails of columns line last fault → RowsFail of columns text count fault
+  pub RowsFail-row : (line after : Bytes) (count : ℕ) (fault : PartFault) → EndsLine rest line after → rest ≡ line ++ 10 ∷ after → RowFails schema line last fault → RowsFail schema text count fault
   RowsFail-row line after count NotTable ends split fails = AreNoRows-line line after ends split fails count
   RowsFail-row line after count OtherColumns ends split fails = fails
   RowsFail-row line after count Memory ends split fails = tt

@@ -2,6 +2,7 @@ pub mod Added
 pub mod Guessing
 pub mod Lines
 pub mod Lists
+pub mod Numbered
 pub mod Picked
 pub mod Places
 pub mod PrintedSums

@@ -2,11 +2,10 @@
 use Rattle.std.specs.{List.{cons_option, list_all, list_any}, Prelude.{flat_map, slice_get}}
 use Rattle.std.proofs.{Common.{◌≡◌, ◌≢◌, ℕ, zero, suc, ◌<◌, ◌&&◌, ◌||◌, Bool, true, false, cond, not, List, [], ◌∷◌, All, Contains, filter, get_or, length, map, Option, Some, None, refl, sym, ap, ap₂, subst, ◌∙◌, arith}, lemmas.List.Elements.{All-contains, All-head, All-tail}}
 use Rattle.span_self_time.proofs.Mapped.{filter-map}
-use Rattle.span_table.proofs.AddedTables.{add_tables-table_of, table_of-picked}
+use Rattle.span_table.proofs.AddedTables.{add_tables-table_of, table_of-chosen}
 use Rattle.span_table_text.specs.Shown.{is_wanted, value_has}
 use Rattle.span_table_text.proofs.{RunTables.table_of-HasWholeKeys, ShownSums.{rows_of-passing, shown_table-added}}
-use Rattle.span_parts.specs.{Bytes, Column, Of, Row, Value, column_name, add_tables, keyed_by, picked, with_columns, rows_of, TableKey, Run, SpanTable, table_of, AreDistinct, Wanted, shown_table, Sum.AreAt}
-use Rattle.span_parts.proofs.Places.{picked-at}
+use Rattle.span_parts.specs.{Bytes, Column, Row, Value, column_name, AreAmong, Choice, add_tables, chosen_from, keyed_by, picked, schema_by, rows_of, TableKey, Run, Schema, SpanTable, table_of, AreDistinct, Wanted, shown_table, Sum.AreAt}
 
 either : (a b : Bool) → b ≡ true → (a || b) ≡ true
 either true b e = refl
@@ -129,37 +128,36 @@ filter-same f g [] same = refl
 filter-same f g (row ∷ rows) same =
     ap₂ (λ b l. cond b (row ∷ l) l) (All-head (λ r. f r ≡ g r) row rows same) (filter-same f g rows (All-tail (λ r. f r ≡ g r) row rows same))
 
--- where no column is dropped, rows are shown before their columns are picked, or behind it
-pub shown_table-with_columns : (wanted : Wanted) (places : List ℕ) (columns : List Column) (table : SpanTable) → AreAt places columns table.columns → All (Contains columns) table.columns
-    → AreDistinct (map column_name table.columns) → All (λ row. length row.key ≡ length table.columns) table.rows →
-    with_columns places (shown_table wanted table) ≡ shown_table wanted (with_columns places table)
-shown_table-with_columns wanted places columns table at kept distinct whole = λ i. record { of = table.of; columns = picked places table.columns; counts = table.counts; rows = rows i }
+-- where no column is dropped, rows are shown before what is chosen of them is taken, or behind it
+pub shown_table-chosen : (wanted : Wanted) (choice : Choice) (columns : List Column) (table : SpanTable) → AreAt choice.places columns table.schema.columns → All (Contains columns) table.schema.columns
+    → AreDistinct (map column_name table.schema.columns) → All (λ row. length row.key ≡ length table.schema.columns) table.rows →
+    chosen_from choice (shown_table wanted table) ≡ shown_table wanted (chosen_from choice table)
+shown_table-chosen wanted choice columns table at kept distinct whole = λ i. record { schema = schema_by choice table.schema; counts = table.counts; rows = rows i }
   where
-    each : All (λ row. is_wanted wanted row.key ≡ is_wanted wanted (picked places row.key)) table.rows
-    each = λ k d low. sym (is_wanted-picked wanted places (get_or table.rows k d).key (λ place below. each_place places columns table.columns at kept distinct place (omega (arith, below, whole k d low))))
+    each : All (λ row. is_wanted wanted row.key ≡ is_wanted wanted (picked choice.places row.key)) table.rows
+    each = λ k d low. sym (is_wanted-picked wanted choice.places (get_or table.rows k d).key (λ place below. each_place choice.places columns table.schema.columns at kept distinct place (omega (arith, below, whole k d low))))
 
-    rows : rows_of (map (keyed_by places) (filter (λ (row : Row). is_wanted wanted row.key) table.rows)) ≡ filter (λ (row : Row). is_wanted wanted row.key) (rows_of (map (keyed_by places) table.rows))
-    rows = ap (λ l. rows_of (map (keyed_by places) l)) (filter-same (λ (row : Row). is_wanted wanted row.key) (λ (row : Row). is_wanted wanted (picked places row.key)) table.rows each)
-        ∙ sym (rows_of-passing (is_wanted wanted) (map (keyed_by places) table.rows) ∙ ap rows_of (filter-map (λ e. is_wanted wanted e.key) (keyed_by places) table.rows))
+    rows : rows_of (map (keyed_by choice) (filter (λ (row : Row). is_wanted wanted row.key) table.rows)) ≡ filter (λ (row : Row). is_wanted wanted row.key) (rows_of (map (keyed_by choice) table.rows))
+    rows = ap (λ l. rows_of (map (keyed_by choice) l)) (filter-same (λ (row : Row). is_wanted wanted row.key) (λ (row : Row). is_wanted wanted (picked choice.places row.key)) table.rows each)
+        ∙ sym (rows_of-passing (is_wanted wanted) (map (keyed_by choice) table.rows) ∙ ap rows_of (filter-map (λ e. is_wanted wanted e.key) (keyed_by choice) table.rows))
 
-module _ (of : Of) (columns own : List Column) (places : List ℕ) (at : AreAt places columns own) where
-  -- tables of runs that are added, each by some of its columns, are the table of all runs by these
-  pub sum-runs : (runs : List (List Run)) → add_tables of (picked places own) (map (with_columns places) (map (table_of of own) runs)) ≡ table_of of columns (flat_map (λ part. part) runs)
-  sum-runs runs =
-      ap (add_tables of (picked places own)) (each runs) ∙ add_tables-table_of of (picked places own) runs ∙ ap (λ l. table_of of l (flat_map (λ part. part) runs)) (picked-at places columns own at)
+module _ (schema own : Schema) (choice : Choice) (at : AreAt choice.places schema.columns own.columns) (among : AreAmong choice.numbers own.numbers) where
+  -- tables of runs that are added, with what is chosen of each, are the table of all runs with this
+  pub sum-runs : (runs : List (List Run)) → add_tables (schema_by choice own) (map (chosen_from choice) (map (table_of own) runs)) ≡ table_of (schema_by choice own) (flat_map (λ part. part) runs)
+  sum-runs runs = ap (add_tables (schema_by choice own)) (each runs) ∙ add_tables-table_of (schema_by choice own) runs
     where
-      each : (runs : List (List Run)) → map (with_columns places) (map (table_of of own) runs) ≡ map (table_of of (picked places own)) runs
+      each : (runs : List (List Run)) → map (chosen_from choice) (map (table_of own) runs) ≡ map (table_of (schema_by choice own)) runs
       each [] = refl
-      each (part ∷ parts) = ap₂ (λ (t : SpanTable) l. t ∷ l) (table_of-picked places of own part) (each parts)
+      each (part ∷ parts) = ap₂ (λ (t : SpanTable) l. t ∷ l) (table_of-chosen choice own part among) (each parts)
 
   -- so are those of their rows that are shown, where no column is dropped
-  pub sum-shown : (wanted : Wanted) → All (Contains columns) own → AreDistinct (map column_name own) → (runs : List (List Run)) →
-      add_tables of (picked places own) (map (with_columns places) (map (λ part. shown_table wanted (table_of of own part)) runs)) ≡ shown_table wanted (table_of of columns (flat_map (λ part. part) runs))
+  pub sum-shown : (wanted : Wanted) → All (Contains schema.columns) own.columns → AreDistinct (map column_name own.columns) → (runs : List (List Run)) →
+      add_tables (schema_by choice own) (map (chosen_from choice) (map (λ part. shown_table wanted (table_of own part)) runs)) ≡ shown_table wanted (table_of (schema_by choice own) (flat_map (λ part. part) runs))
   sum-shown wanted kept distinct runs =
-      ap (add_tables of (picked places own)) (each runs) ∙ sym (shown_table-added wanted of (picked places own) (map (with_columns places) (map (table_of of own) runs)))
+      ap (add_tables (schema_by choice own)) (each runs) ∙ sym (shown_table-added wanted (schema_by choice own) (map (chosen_from choice) (map (table_of own) runs)))
       ∙ ap (shown_table wanted) (sum-runs runs)
     where
-      each : (runs : List (List Run)) → map (with_columns places) (map (λ part. shown_table wanted (table_of of own part)) runs) ≡ map (shown_table wanted) (map (with_columns places) (map (table_of of own) runs))
+      each : (runs : List (List Run)) → map (chosen_from choice) (map (λ part. shown_table wanted (table_of own part)) runs) ≡ map (shown_table wanted) (map (chosen_from choice) (map (table_of own) runs))
       each [] = refl
       each (part ∷ parts) =
-          ap₂ (λ (t : SpanTable) l. t ∷ l) (shown_table-with_columns wanted places columns (table_of of own part) at kept distinct (table_of-HasWholeKeys own part of)) (each parts)
+          ap₂ (λ (t : SpanTable) l. t ∷ l) (shown_table-chosen wanted choice schema.columns (table_of own part) at kept distinct (table_of-HasWholeKeys own part)) (each parts)

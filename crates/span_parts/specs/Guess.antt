@@ -1,7 +1,7 @@
 -- What is found among the tokens of a line.
-use Rattle.std.specs.{Borrow.Bor, Prelude.{◌≡◌, ◌+◌, ◌≤◌, true, List, All, length, map, Option, Some, None}}
+use Rattle.std.specs.{Borrow.Bor, Prelude.{◌≡◌, ◌+◌, ◌≤◌, ◌++◌, true, List, All, length, map, Option, Some, None}}
 use Rattle.json.specs.{Reads.token_of, declared.token.Token.Token}
-use Rattle.span_parts.specs.{Column, is_column}
+use Rattle.span_parts.specs.{Column, Number, AreDistinct, is_column, number_name}
 use Rattle.json.specs.Token as spec
 
 -- this was found, and these tokens are behind it
@@ -22,3 +22,7 @@ Remains rest (Some left) = map token_of left.now ≡ rest
 pub record MayFollow (columns later : List Column) : Type 0 where
   pub each : All (λ column. is_column column ≡ true) later
   pub few : length columns + length later ≤ 8
+
+-- these numbers may come behind those
+abbrev pub MayFollowNumbers : List Number → List Number → Type 0
+MayFollowNumbers numbers later = AreDistinct (map number_name (numbers ++ later))

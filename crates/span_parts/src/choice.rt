@@ -1,9 +1,60 @@
-//! Which columns of parts a sum has.
+//! What a sum has of its parts: which columns, and which numbers.
+ghost use Rattle.std.specs.List.{list_all};
 ghost use Rattle.std.specs.Prelude.{◌≡◌, ◌≢◌, ◌↔◌, ◌<◌, ℕ, length, slice_get, IfNone, IfOk, IfSome, IsTrue, Some};
+ghost use Rattle.span_parts.specs.{has_number};
 ghost use Rattle.span_parts.specs.Sum.{FindsPlaces, chosen, named_or_all};
 
-use span_table::{Column, copies_of};
+use span_table::{Column, Number, NumberSet, Schema, are_same, copies_of, has_number};
+use span_table_text::AskedNumbers;
 use std::alloc::{AllocError, Global};
+use std::marker::Model;
+
+/// What is asked of parts: the columns that are shown, all where none is named, those that conditions test, and the numbers.
+#[derive(Drop)]
+pub struct Asked<'a> {
+    pub shown: &'a [Column],
+    pub tested: &'a [Column],
+    pub numbers: &'a AskedNumbers,
+}
+
+impl<'a> Model for Asked<'a> {
+    ghost use Rattle.span_parts.specs.Sum as sum;
+
+    ghost Value = { sum.Asked };
+
+    ghost view = { λ a. record { shown = a.shown.now; tested = a.tested.now; numbers = a.numbers.now } };
+}
+
+/// What is chosen of the rows of parts: the values at these places of their keys, and these numbers.
+#[derive(Drop)]
+pub(crate) struct RowChoice<'a> {
+    pub(crate) places: &'a [usize],
+    pub(crate) numbers: &'a [Number],
+    pub(crate) set: NumberSet,
+}
+
+impl<'a> Model for RowChoice<'a> {
+    ghost use Rattle.std.specs.Prelude.{◌≡◌};
+    ghost use Rattle.span_parts.specs.{Choice, set_of};
+
+    ghost Value = { Choice };
+
+    ghost view = { λ c. record { places = c.places.now; numbers = c.numbers.now } };
+
+    ghost invariant = { λ c. c.set ≡ set_of c.numbers.now };
+}
+
+impl<'a> RowChoice<'a> {
+    pub(crate) fn of(places: &'a [usize], numbers: &'a [Number]) -> RowChoice<'a>
+        ensures { result ≡ record { places = places.entry.now; numbers = numbers.entry.now } }
+    {
+        RowChoice {
+            places,
+            numbers,
+            set: NumberSet::of(numbers),
+        }
+    }
+}
 
 /// The columns that are asked for: those that are shown, or all where none is named, and behind them those that conditions test.
 pub(crate) fn chosen(
@@ -67,8 +118,22 @@ fn is_same(one: &Column, other: &Column) -> bool
     one == other
 }
 
-/// Whether these are the same columns in the same order.
-pub(crate) fn are_same(columns: &[Column], others: &[Column]) -> bool
+/// Whether both schemas are the same.
+pub(crate) fn is_same_schema(schema: &Schema, other: &Schema) -> bool
+    ensures { IsTrue result ↔ schema.now ≡ other.now }
+{
+    schema.of == other.of
+        && are_same_columns(&schema.columns, &other.columns)
+        && are_same_numbers(&schema.numbers, &other.numbers)
+}
+
+fn are_same_numbers(numbers: &[Number], others: &[Number]) -> bool
+    ensures { IsTrue result ↔ numbers.now ≡ others.now }
+{
+    are_same(numbers, others)
+}
+
+fn are_same_columns(columns: &[Column], others: &[Column]) -> bool
     ensures { IsTrue result ↔ columns.now ≡ others.now }
 {
     let Some((column, columns)) = columns.split_first() else {
@@ -77,7 +142,14 @@ pub(crate) fn are_same(columns: &[Column], others: &[Column]) -> bool
     let Some((other, others)) = others.split_first() else {
         return false;
     };
-    is_same(column, other) && are_same(columns, others)
+    is_same(column, other) && are_same_columns(columns, others)
+}
+
+/// Whether all of these numbers are among those.
+pub(crate) fn are_among(numbers: &[Number], all: &[Number]) -> bool
+    ensures { result ≡ list_all (has_number all.now) numbers.now }
+{
+    numbers.iter().all(|number| has_number(all, *number))
 }
 
 pub(crate) fn copy_of_places(alloc: Global, places: &[usize]) -> Result<Vec<usize>, AllocError>
@@ -85,5 +157,13 @@ pub(crate) fn copy_of_places(alloc: Global, places: &[usize]) -> Result<Vec<usiz
 {
     let mut copy = Vec::new(alloc);
     copy.extend_from_slice(places)?;
+    Ok(copy)
+}
+
+pub(crate) fn copy_of_numbers(alloc: Global, numbers: &[Number]) -> Result<Vec<Number>, AllocError>
+    ensures { IfOk result (λ copy. copy.items ≡ numbers.now) }
+{
+    let mut copy = Vec::new(alloc);
+    copy.extend_from_slice(numbers)?;
     Ok(copy)
 }

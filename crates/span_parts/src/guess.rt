@@ -1,23 +1,24 @@
 //! What a line would have to be, if a table was printed. It is printed again and compared, so an answer needs no trust; that none is
 //! missed is what the contracts say.
 ghost use Rattle.std.specs.{Fmt.signed_decimal, Int.w64, Prelude.{◌≡◌, ◌≢◌, ◌<◌, ◌^◌, ◌++◌, ◌∷◌, [], ℕ, ℤ, FitsSigned, List, None, Some, true, codes, map, IfOk}};
-ghost use Rattle.json.specs.{Reads.token_of, Token.{Token as TheToken, end_array, key}};
-ghost use Rattle.span_table.specs.Tables.{sums_together};
-ghost use Rattle.span_parts.specs.{Bytes, ArgValue as TheValue, Whole, Unit as TheUnit, Column as TheColumn, TableCounts as TheCounts, Of as TheOf, Sums as TheSums, Row as TheRow, column_name, counts_fit, fit, numbers_of, only, TableKey, AreColumns, AreDistinct, IsKeyOf, IsOfArgument, IsRowOf, entry_counts_tokens, head_tokens, key_tokens, name_tokens, number_tokens, numbers_tokens, of_tokens, row_tokens, sums_tokens, unit_tokens, value_tokens, First.{MayBegin, Says}, Guess.{Finds, Found, MayFollow, Remains}};
+ghost use Rattle.json.specs.{Reads.token_of, Token.{Token as TheToken, end_array, key, string}};
+ghost use Rattle.span_table.specs.Sums.{no_sums};
+ghost use Rattle.span_parts.specs.{Bytes, ArgValue as TheValue, Whole, Unit as TheUnit, Column as TheColumn, TableCounts as TheCounts, Number as TheNumber, Of as TheOf, Sums as TheSums, Row as TheRow, Schema as TheSchema, column_name, counts_fit, fit, number_name, only, TableKey, AreDistinct, AreNumbers, IsKeyOf, IsOfArgument, IsRowOf, IsSchema, entry_counts_tokens, head_tokens, key_tokens, list_tokens, name_tokens, number_tokens, numbers_tokens, of_tokens, row_tokens, sums_tokens, unit_tokens, value_tokens, First.{MayBegin, Says}, Guess.{Finds, Found, MayFollow, MayFollowNumbers, Remains}};
 
 use crate::heads::MOST_COLUMNS;
 use crate::tokens::{after_one, key_after, number_after, text_after};
 use json::Token;
 use span_event::{ArgValue, Text, Unit};
-use span_table::{Column, EntryCounts, Key, Number, Of, Row, Sums, TableCounts};
+use span_table::{
+    Audience, Column, EntryCounts, Key, Number, Of, Row, Schema, Sums, TableCounts, has_number,
+};
 use std::alloc::{AllocError, Global};
 
-/// What a first line says: what is summed, the unit, the columns, the number of rows and the counts.
+/// What a first line says: the schema, the unit, the number of rows and the counts.
 #[derive(Drop)]
 pub(crate) struct FirstLine {
-    pub(crate) of: Of,
+    pub(crate) schema: Schema,
     pub(crate) unit: Unit,
-    pub(crate) columns: Vec<Column>,
     pub(crate) rows: u64,
     pub(crate) counts: TableCounts,
 }
@@ -27,10 +28,10 @@ pub(crate) fn first_line_of(
     tokens: &[Token],
 ) -> Result<Option<FirstLine>, AllocError>
     ensures { IfOk result (λ found.
-        (of : TheOf) (unit : TheUnit) (columns : List TheColumn) (rows : ℕ) (counts : TheCounts)
-        → MayBegin of columns rows counts
-        → map token_of tokens.now ≡ head_tokens of unit columns rows counts
-        → Says of unit columns rows counts found) }
+        (schema : TheSchema) (unit : TheUnit) (rows : ℕ) (counts : TheCounts)
+        → MayBegin schema rows counts
+        → map token_of tokens.now ≡ head_tokens schema unit rows counts
+        → Says schema unit rows counts found) }
 {
     let mut columns = Vec::new(alloc);
     let Some((of, rest)) = of_after(tokens) else {
@@ -45,11 +46,18 @@ pub(crate) fn first_line_of(
     let Some(rest) = after_one(rest) else {
         return Ok(None);
     };
+    let mut numbers = Vec::new(alloc);
+    let Some(rest) = put_list(of, rest, &mut numbers)? else {
+        return Ok(None);
+    };
     match numbers_of(rest) {
         Some((rows, counts)) => Ok(Some(FirstLine {
-            of,
+            schema: Schema {
+                of,
+                columns,
+                numbers,
+            },
             unit,
-            columns,
             rows,
             counts,
         })),
@@ -111,6 +119,57 @@ fn put_columns<'t, 'a>(
     }
 }
 
+// Takes the numbers of a table's rows, the usual ones where no list is next, and gives the tokens behind the list.
+fn put_list<'t, 'a>(
+    of: Of,
+    tokens: &'t [Token<'a>],
+    numbers: &mut Vec<Number>,
+) -> Result<Option<&'t [Token<'a>]>, AllocError>
+    requires { numbers.old.items ≡ [] }
+    ensures { IfOk result (λ left. (schema : TheSchema) (rest : List TheToken)
+        → schema.of ≡ of → AreNumbers of schema.numbers
+        → map token_of tokens.now ≡ list_tokens schema (key (codes "rows") ∷ rest)
+        → Remains (key (codes "rows") ∷ rest) left × (numbers.new.items ≡ schema.numbers)) }
+{
+    let Some(list) = key_after(tokens, "numbers") else {
+        numbers.extend_from_slice(of.numbers(Audience::Programs))?;
+        return Ok(Some(tokens));
+    };
+    let Some(names) = after_one(list) else {
+        return Ok(None);
+    };
+    match put_named(names, numbers)? {
+        Some(rest) => Ok(after_one(rest)),
+        None => Ok(None),
+    }
+}
+
+// Adds numbers of these names, none twice, and gives the tokens behind them.
+fn put_named<'t, 'a>(
+    tokens: &'t [Token<'a>],
+    numbers: &mut Vec<Number>,
+) -> Result<Option<&'t [Token<'a>]>, AllocError>
+    ensures { IfOk result (λ left. (later : List TheNumber) (rest : List TheToken)
+        → MayFollowNumbers numbers.old.items later
+        → map token_of tokens.now ≡ map string (map number_name later) ++ end_array ∷ rest
+        → Remains (end_array ∷ rest) left × (numbers.new.items ≡ numbers.old.items ++ later)) }
+{
+    let Some((name, rest)) = text_after(tokens) else {
+        return Ok(Some(tokens));
+    };
+    let Some(number) = Number::named(name) else {
+        return Ok(None);
+    };
+    if has_number(numbers, number) {
+        return Ok(None);
+    }
+    numbers.push(number)?;
+    match put_named(rest, numbers) {
+        Ok(left) => Ok(left),
+        Err(refused) => Err(refused),
+    }
+}
+
 fn numbers_of(tokens: &[Token]) -> Option<(u64, TableCounts)>
     ensures { (rows : ℕ) (counts : TheCounts) (rest : List TheToken)
         → rows < 2 ^ 64 → counts_fit counts ≡ true
@@ -149,23 +208,24 @@ fn entry_counts_of(tokens: &[Token]) -> Option<EntryCounts>
     })
 }
 
-/// The row of a table that sums this, by columns of these names.
+/// The row of a table with these numbers, by columns of these names.
 pub(crate) fn row_of(
     alloc: Global,
-    of: Of,
+    numbers: &[Number],
     names: &[Text],
     tokens: &[Token],
 ) -> Result<Option<Row>, AllocError>
-    ensures { IfOk result (λ found. (columns : List TheColumn) (row : TheRow)
-        → AreColumns of columns → IsRowOf of columns row → names.now ≡ map column_name columns
-        → map token_of tokens.now ≡ row_tokens of columns row → found ≡ Some row) }
+    ensures { IfOk result (λ found. (schema : TheSchema) (row : TheRow)
+        → IsSchema schema → IsRowOf schema row → numbers.now ≡ schema.numbers
+        → names.now ≡ map column_name schema.columns
+        → map token_of tokens.now ≡ row_tokens schema row → found ≡ Some row) }
 {
     let Some(members) = after_one(tokens) else {
         return Ok(None);
     };
     let (key, rest) = key_of(alloc, names, members)?;
     let mut sums = Sums::of_none();
-    match put_sums(of.numbers(), rest, &mut sums) {
+    match put_sums(numbers, rest, &mut sums) {
         Some(_) => Ok(Some(Row { key, sums })),
         None => Ok(None),
     }
@@ -177,11 +237,11 @@ fn key_of<'t, 'a>(
     names: &[Text],
     tokens: &'t [Token<'a>],
 ) -> Result<(Key, &'t [Token<'a>]), AllocError>
-    ensures { IfOk result (λ found. (of : TheOf) (columns : List TheColumn)
-        (values : TableKey) (sums : TheSums) (rest : List TheToken)
+    ensures { IfOk result (λ found. (first : TheNumber) (columns : List TheColumn)
+        (values : TableKey) (rest : List TheToken)
         → AreDistinct names.now → IsKeyOf columns values → names.now ≡ map column_name columns
-        → map token_of tokens.now ≡ key_tokens columns values ++ (sums_tokens (numbers_of of) sums ++ rest)
-        → Found values (sums_tokens (numbers_of of) sums ++ rest) found) }
+        → map token_of tokens.now ≡ key_tokens columns values ++ key (number_name first) ∷ rest
+        → Found values (key (number_name first) ∷ rest) found) }
 {
     let mut values = Vec::with_capacity(alloc, names.len())?;
     let rest = put_values(alloc, names, tokens, &mut values)?;
@@ -194,11 +254,11 @@ fn put_values<'t, 'a>(
     tokens: &'t [Token<'a>],
     values: &mut Vec<Option<ArgValue>>,
 ) -> Result<&'t [Token<'a>], AllocError>
-    ensures { IfOk result (λ left. (of : TheOf) (columns : List TheColumn)
-        (more : TableKey) (sums : TheSums) (rest : List TheToken)
+    ensures { IfOk result (λ left. (first : TheNumber) (columns : List TheColumn)
+        (more : TableKey) (rest : List TheToken)
         → AreDistinct names.now → IsKeyOf columns more → names.now ≡ map column_name columns
-        → map token_of tokens.now ≡ key_tokens columns more ++ (sums_tokens (numbers_of of) sums ++ rest)
-        → Found (values.old.items ++ more) (sums_tokens (numbers_of of) sums ++ rest) (values.new.items, left)) }
+        → map token_of tokens.now ≡ key_tokens columns more ++ key (number_name first) ∷ rest
+        → Found (values.old.items ++ more) (key (number_name first) ∷ rest) (values.new.items, left)) }
 {
     let Some((name, names)) = names.split_first() else {
         return Ok(tokens);
@@ -217,7 +277,7 @@ fn put_sums<'t, 'a>(
     tokens: &'t [Token<'a>],
     sums: &mut Sums,
 ) -> Option<&'t [Token<'a>]>
-    requires { sums.old ≡ sums_together [] }
+    requires { sums.old ≡ no_sums }
     ensures { (all : TheSums) (rest : List TheToken) → fit all ≡ true
         → map token_of tokens.now ≡ sums_tokens numbers.now all ++ rest
         → Remains rest result × (sums.new ≡ only numbers.now all) }

@@ -1,13 +1,13 @@
 //! The first line of a part.
-ghost use Rattle.std.specs.{List.list_any, Prelude.{◌≡◌, ◌↔◌, ◌==◌, ◌++◌, ◌∷◌, [], true, ℕ, List, map, IfErr, IfOk, IfSome, IsTrue}};
-ghost use Rattle.span_parts.specs.{Bytes, Unit as TheUnit, Column as TheColumn, TableCounts as TheCounts, Of as TheOf, column_name, counts_fit, json_head, is_column, is_key, AreColumns, AreDistinct, First.{Begins, IsFirstLine, MayBegin, Says}, Sum.FailsToBegin};
+ghost use Rattle.std.specs.{List.list_any, Prelude.{◌≡◌, ◌↔◌, ◌==◌, ◌++◌, ◌∷◌, [], true, ℕ, map, IfErr, IfOk, IfSome, IsTrue}};
+ghost use Rattle.span_parts.specs.{Bytes, Unit as TheUnit, TableCounts as TheCounts, Schema as TheSchema, column_name, counts_fit, json_head, is_column, is_key, number_name, AreColumns, AreDistinct, AreNumbers, IsSchema, First.{Begins, IsFirstLine, MayBegin, Says}, Sum.FailsToBegin};
 
 use crate::fault::PartFault;
 use crate::guess::{FirstLine, first_line_of};
 use crate::room::{LineRoom, is_line};
 use crate::tokens::tokens_of;
 use span_event::Text;
-use span_table::{Column, Of, counts_fit};
+use span_table::{Column, Number, Of, Schema, counts_fit, has_number};
 use span_table_text::{Head, column_names, with_json_head};
 use std::alloc::{AllocError, Global};
 
@@ -44,17 +44,18 @@ fn head_of_line(
 ) -> Result<Option<FirstLine>, AllocError>
     ensures is { IfOk result (λ found. IfSome found (IsFirstLine line.now)) }
     ensures found { IfOk result (λ found.
-        (of : TheOf) (unit : TheUnit) (columns : List TheColumn) (rows : ℕ) (counts : TheCounts)
-        → MayBegin of columns rows counts
-        → line.now ++ 10 ∷ [] ≡ json_head of unit columns rows counts
-        → Says of unit columns rows counts found) }
+        (schema : TheSchema) (unit : TheUnit) (rows : ℕ) (counts : TheCounts)
+        → MayBegin schema rows counts
+        → line.now ++ 10 ∷ [] ≡ json_head schema unit rows counts
+        → Says schema unit rows counts found) }
 {
     let tokens = tokens_of(alloc, line, &mut room.scratch)?;
     let Some(first) = first_line_of(alloc, &tokens)? else {
         return Ok(None);
     };
-    let names = column_names(alloc, &first.columns)?;
-    if !are_columns(first.of, &first.columns, &names) {
+    let schema = &first.schema;
+    let names = column_names(alloc, &schema.columns)?;
+    if !is_schema(schema, &names) {
         return Ok(None);
     }
     if !counts_fit(&first.counts) {
@@ -68,22 +69,47 @@ fn head_of_line(
 
 // Whether this is printed as the line.
 fn is_head(alloc: Global, first: &FirstLine, names: &[Text], line: &str) -> Result<bool, AllocError>
-    requires names { names.now ≡ map column_name first.now.columns.items }
+    requires names { names.now ≡ map column_name first.now.schema.columns }
     requires counts { counts_fit first.now.counts ≡ true }
     ensures { IfOk result (λ same. IsTrue same ↔ line.now ++ 10 ∷ []
-        ≡ json_head first.now.of first.now.unit first.now.columns.items
-        first.now.rows first.now.counts) }
+        ≡ json_head first.now.schema first.now.unit first.now.rows first.now.counts) }
 {
     let head = Head {
-        of: first.of,
+        schema: &first.schema,
         unit: first.unit,
-        columns: &first.columns,
         names,
         rows: first.rows,
         counts: first.counts,
     };
     let printed = with_json_head(Vec::new(alloc), &head)?;
     Ok(is_line(&printed, line))
+}
+
+// Whether a table may have this schema, whose columns have these names.
+fn is_schema(schema: &Schema, names: &[Text]) -> bool
+    requires { names.now ≡ map column_name schema.now.columns }
+    ensures { IsTrue result ↔ IsSchema schema.now }
+{
+    are_columns(schema.of, &schema.columns, names) && are_numbers(schema.of, &schema.numbers)
+}
+
+// Whether a table that sums this may have these numbers.
+fn are_numbers(of: Of, numbers: &[Number]) -> bool
+    ensures { IsTrue result ↔ AreNumbers of numbers.now }
+{
+    !numbers.is_empty()
+        && numbers.iter().all(|number| has_number(of.all(), *number))
+        && differ(numbers)
+}
+
+// Whether no number comes twice.
+fn differ(numbers: &[Number]) -> bool
+    ensures { IsTrue result ↔ AreDistinct (map number_name numbers.now) }
+{
+    let Some((number, later)) = numbers.split_first() else {
+        return true;
+    };
+    !has_number(later, *number) && differ(later)
 }
 
 // Whether a table that sums this may have these columns, of these names.

@@ -12,8 +12,9 @@ mod rows;
 mod sums;
 mod tokens;
 
+pub use choice::Asked;
 pub use fault::PartFault;
 pub use parts::Parts;
 pub use span_event::Unit;
 pub use span_names::HashKeys;
-pub use span_table::{Column, Of, Table};
+pub use span_table::{Column, Schema, Table};

@@ -1,8 +1,10 @@
 //! Parts that are added.
-ghost use Rattle.std.specs.Prelude.{◌↔◌, ◌≡◌, IfErr, IfOk, IsTrue};
-ghost use Rattle.span_parts.specs.{Bytes, First.{Begins, MayBegin}, Sum.{FirstFails, JoinsParts, PartFails, RefusesOthers, TakesFirst, TakesNone, TakesPart}};
+ghost use Rattle.std.specs.Prelude.{◌↔◌, ◌≡◌, IfErr, IfNone, IfOk, IfSome, IsTrue};
+ghost use Rattle.span_parts.specs.{Bytes, Choice as TheChoice, schema_by, First.{Begins, MayBegin}, Sum.{ChoosesOf, FirstFails, JoinsParts, PartFails, RefusesOthers, TakesFirst, TakesNone, TakesPart}};
 
-use crate::choice::{are_same, chosen, copy_of_places, places_of};
+use crate::choice::{
+    Asked, RowChoice, are_among, chosen, copy_of_numbers, copy_of_places, is_same_schema, places_of,
+};
 use crate::fault::PartFault;
 use crate::guess::FirstLine;
 use crate::heads::begin;
@@ -10,20 +12,18 @@ use crate::room::LineRoom;
 use crate::sums::{add_part, look_through};
 use span_event::Unit;
 use span_names::HashKeys;
-use span_table::{Column, Of, Table, TableSum, copies_of};
+use span_table::{Schema, Table, TableSum};
 use std::alloc::{AllocError, Global};
 use std::marker::Model;
 
-/// The sum of parts that sum the same, in the same unit and by the same columns, of which some may be dropped.
+/// The sum of parts of the same schema and unit, of which some columns and numbers may be dropped.
 #[derive(Drop)]
 pub struct Parts {
-    // What each part sums.
-    of: Of,
     // The unit of each part.
     unit: Unit,
-    // Those of each part.
-    columns: Vec<Column>,
-    // Which of them the sum has, in its order.
+    // The schema of each part.
+    schema: Schema,
+    // Which of its columns the sum has, in its order.
     places: Vec<usize>,
     sum: TableSum,
 }
@@ -33,79 +33,83 @@ impl Model for Parts {
 
     ghost Value = { PartSum };
 
-    ghost view = { λ p. record { of = p.of; unit = p.unit; columns = p.columns.items; places = p.places.items; sum = p.sum.table } };
+    ghost view = { λ p. record { unit = p.unit; schema = p.schema; choice = record { places = p.places.items; numbers = p.sum.table.schema.numbers }; sum = p.sum.table } };
 
-    ghost invariant = { λ p. IsByThese p.of p.columns.items p.places.items p.sum.table };
+    ghost invariant = { λ p. IsByThese p.schema (record { places = p.places.items; numbers = p.sum.table.schema.numbers }) p.sum.table };
 }
 
 impl Parts {
-    /// The sum of the one part that this text is, by the columns that are shown, or by all that it has where none is named, and behind
-    /// them by those that conditions test. It has each of them, in any order. Maps that files fill are hashed by these keys.
+    /// The sum of the one part that this text is, with what is asked for of its columns and numbers, in any order. Maps that files fill
+    /// are hashed by these keys.
     pub fn of_first(
         alloc: Global,
         keys: HashKeys,
-        shown: &[Column],
-        tested: &[Column],
+        asked: &Asked,
         text: &[u8],
     ) -> Result<Parts, PartFault>
-        ensures sum { IfOk result (TakesFirst shown.now tested.now text.now) }
-        ensures fault { IfErr result (FirstFails shown.now tested.now text.now) }
+        ensures sum { IfOk result (TakesFirst asked.now text.now) }
+        ensures fault { IfErr result (FirstFails asked.now text.now) }
     {
         let mut room = LineRoom::new(alloc);
         let (first, rest) = match begin(alloc, text, &mut room) {
             Ok(begun) => begun,
             Err(fault) => return Err(fault),
         };
-        let wanted = chosen(alloc, shown, tested, &first.columns)?;
-        let places = match places_of(alloc, &wanted, &first.columns) {
-            Ok(Some(places)) => places,
+        let taken = match taken_of(alloc, asked, &first.schema) {
+            Ok(Some(taken)) => taken,
             Ok(None) => return Err(fault_of_others(alloc, &first, rest, &mut room)),
             Err(_) => return Err(PartFault::Memory),
         };
-        let sum = match TableSum::new(alloc, keys, first.of, &wanted) {
-            Ok(sum) => sum,
+        let schema = taken.schema;
+        let numbers = match copy_of_numbers(alloc, &schema.numbers) {
+            Ok(numbers) => numbers,
             Err(_) => return Err(PartFault::Memory),
         };
-        match add_part(alloc, &places, &first, rest, sum, &mut room) {
+        let sum = TableSum::new(alloc, keys, schema);
+        let choice = RowChoice::of(&taken.places, &numbers);
+        match add_part(alloc, &choice, &first, rest, sum, &mut room) {
             Ok(sum) => Ok(Parts {
-                of: first.of,
                 unit: first.unit,
-                columns: first.columns,
-                places,
+                schema: first.schema,
+                places: taken.places,
                 sum,
             }),
             Err(fault) => Err(fault),
         }
     }
 
-    /// The sum of no parts, which are to sum the same as these, in the same unit and by the same columns.
+    /// The sum of no parts, which are to have the schema and unit of these.
     pub fn of_none_beside(&self, alloc: Global, keys: HashKeys) -> Result<Parts, AllocError>
         ensures { IfOk result (TakesNone self.now) }
     {
         Ok(Parts {
-            of: self.of,
             unit: self.unit,
-            columns: copies_of(alloc, &self.columns)?,
+            schema: self.schema.try_clone(alloc)?,
             places: copy_of_places(alloc, &self.places)?,
-            sum: TableSum::new(alloc, keys, self.of, self.sum.columns())?,
+            sum: TableSum::new(alloc, keys, self.sum.schema().try_clone(alloc)?),
         })
     }
 
     /// With the part that this text is.
     pub fn add(self, alloc: Global, text: &[u8]) -> Result<Parts, PartFault>
         ensures sum { IfOk result (TakesPart text.now self) }
-        ensures fault { IfErr result (PartFails self.of self.unit self.columns text.now) }
+        ensures fault { IfErr result (PartFails self.schema self.unit text.now) }
     {
         let mut room = LineRoom::new(alloc);
         let (first, rest) = match begin(alloc, text, &mut room) {
             Ok(begun) => begun,
             Err(fault) => return Err(fault),
         };
-        if !is_alike(&first, self.of, self.unit, &self.columns) {
+        if !is_alike(&first, &self.schema, self.unit) {
             return Err(fault_of_others(alloc, &first, rest, &mut room));
         }
         let sum = self.sum;
-        match add_part(alloc, &self.places, &first, rest, sum, &mut room) {
+        let numbers = match copy_of_numbers(alloc, &sum.schema().numbers) {
+            Ok(numbers) => numbers,
+            Err(_) => return Err(PartFault::Memory),
+        };
+        let choice = RowChoice::of(&self.places, &numbers);
+        match add_part(alloc, &choice, &first, rest, sum, &mut room) {
             Ok(sum) => Ok(Parts { sum, ..self }),
             Err(fault) => Err(fault),
         }
@@ -119,8 +123,8 @@ impl Parts {
         Ok(Parts { sum, ..self })
     }
 
-    /// With the parts of another sum, which sum the same, in the same unit and by the same columns. Both are put in order, and it
-    /// costs a comparison for each row.
+    /// With the parts of another sum, of the same schema and unit, of which the same is chosen. Both are put in order, and it costs a
+    /// comparison for each row.
     pub fn join(self, other: Parts) -> Result<Parts, PartFault>
         ensures { IfOk result (JoinsParts self other) }
     {
@@ -128,18 +132,11 @@ impl Parts {
         Ok(Parts { sum, ..self })
     }
 
-    /// What each part sums, and so the sum.
-    pub fn kind(&self) -> Of
-        ensures { result ≡ self.now.of }
+    /// That of the sum.
+    pub fn schema(&self) -> &Schema
+        ensures { result.now ≡ self.now.sum.schema }
     {
-        self.of
-    }
-
-    /// Those of the sum.
-    pub fn columns(&self) -> &[Column]
-        ensures { result.now ≡ self.now.sum.columns }
-    {
-        self.sum.columns()
+        self.sum.schema()
     }
 
     /// That of each part, and so of the sum.
@@ -157,19 +154,52 @@ impl Parts {
     }
 }
 
-// Whether a part that begins so sums this, in this unit and by these columns.
-fn is_alike(first: &FirstLine, of: Of, unit: Unit, columns: &[Column]) -> bool
-    ensures { IsTrue result
-        ↔ (first.now.of ≡ of) × (first.now.unit ≡ unit) × (first.now.columns.items ≡ columns.now) }
-{
-    first.of == of && first.unit == unit && are_same(&first.columns, columns)
+// What is taken of parts of a schema: the columns at these places, and the schema of the sum.
+#[derive(Drop)]
+struct Taken {
+    places: Vec<usize>,
+    schema: Schema,
 }
 
-// Why a text that begins so is refused: for what it sums, its unit or its columns, if it is a part.
+// What is asked for of a schema. None where it lacks a column or a number.
+fn taken_of(alloc: Global, asked: &Asked, schema: &Schema) -> Result<Option<Taken>, AllocError>
+    ensures is { IfOk result (λ found. IfSome found (λ taken. ChoosesOf asked.now schema.now
+        (record { places = taken.places.items; numbers = taken.schema.numbers }))) }
+    ensures by { IfOk result (λ found. IfSome found (λ taken. taken.schema ≡ schema_by
+        (record { places = taken.places.items; numbers = taken.schema.numbers }) schema.now)) }
+    ensures none { IfOk result (λ found. IfNone found
+        ((choice : TheChoice) → ChoosesOf asked.now schema.now choice → ⊥)) }
+{
+    let columns = chosen(alloc, asked.shown, asked.tested, &schema.columns)?;
+    let numbers = asked.numbers.shown(alloc, schema.of, &schema.numbers)?;
+    if !are_among(&numbers, &schema.numbers) {
+        return Ok(None);
+    }
+    match places_of(alloc, &columns, &schema.columns)? {
+        Some(places) => Ok(Some(Taken {
+            places,
+            schema: Schema {
+                of: schema.of,
+                columns,
+                numbers,
+            },
+        })),
+        None => Ok(None),
+    }
+}
+
+// Whether a part that begins so has this schema and unit.
+fn is_alike(first: &FirstLine, schema: &Schema, unit: Unit) -> bool
+    ensures { IsTrue result ↔ (first.now.schema ≡ schema.now) × (first.now.unit ≡ unit) }
+{
+    first.unit == unit && is_same_schema(&first.schema, schema)
+}
+
+// Why a text that begins so is refused: for its schema or its unit, if it is a part.
 fn fault_of_others(alloc: Global, first: &FirstLine, rest: &str, room: &mut LineRoom) -> PartFault
-    requires { MayBegin first.now.of first.now.columns.items first.now.rows first.now.counts }
+    requires { MayBegin first.now.schema first.now.rows first.now.counts }
     ensures { (text : Bytes) → Begins text first.now rest.now
-        → RefusesOthers first.now.of first.now.unit first.now.columns.items text result }
+        → RefusesOthers first.now.schema first.now.unit text result }
 {
     match look_through(alloc, first, rest, room) {
         Ok(()) => PartFault::OtherColumns,

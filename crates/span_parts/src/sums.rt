@@ -1,30 +1,30 @@
 //! The rows of a part, which are added one after another.
 ghost use Rattle.std.specs.Prelude.{◌≡◌, ◌++◌, ◌∷◌, [], map, IfErr, IfOk, IsTrue, OnOk};
-ghost use Rattle.span_parts.specs.{Row as TheRow, picked, with_row, column_name, AreColumns, Bytes, First.{Begins, MayBegin}, Rows.{AllAdded, IsNextRow, RowFails, RowsFail, comes_after, row_at}, Sum.{HasColumns, IsAdded, SumFails}};
+ghost use Rattle.span_parts.specs.{Row as TheRow, picked, with_row, column_name, Bytes, IsSchema, First.{Begins, MayBegin}, Rows.{AllAdded, IsNextRow, RowFails, RowsFail, comes_after, row_at}, Sum.{HasSchema, IsAdded, SumFails}};
 
+use crate::choice::RowChoice;
 use crate::fault::PartFault;
 use crate::guess::FirstLine;
 use crate::room::LineRoom;
-use crate::rows::row_of_line;
-use span_event::{ArgValue, Text};
+use crate::rows::{RowShape, row_of_line};
+use span_event::ArgValue;
 use span_names::HashKeys;
-use span_table::{Column, Key, Of, Row, TableSum, copy_of};
+use span_table::{Key, Of, Row, Schema, TableSum, copy_of};
 use span_table_text::column_names;
 use std::alloc::{AllocError, Global};
 
 /// Adds a part that begins so, and whose rows are this rest.
 pub(crate) fn add_part(
     alloc: Global,
-    places: &[usize],
+    choice: &RowChoice,
     first: &FirstLine,
     rest: &str,
     sum: TableSum,
     room: &mut LineRoom,
 ) -> Result<TableSum, PartFault>
-    requires { MayBegin first.now.of first.now.columns.items first.now.rows first.now.counts }
+    requires { MayBegin first.now.schema first.now.rows first.now.counts }
     ensures added { IfOk result (λ new. (text : Bytes) → Begins text first.now rest.now
-        → IsAdded first.now.of first.now.unit first.now.columns.items places.now text sum.table
-        new.table) }
+        → IsAdded first.now.schema first.now.unit choice.now text sum.table new.table) }
     ensures fault { IfErr result (λ fault. (text : Bytes) → Begins text first.now rest.now
         → SumFails text fault) }
 {
@@ -32,9 +32,8 @@ pub(crate) fn add_part(
     sum.add_counts(&first.counts)?;
     add_rows(
         alloc,
-        first.of,
-        &first.columns,
-        places,
+        &first.schema,
+        choice,
         rest,
         first.rows,
         &mut sum,
@@ -50,15 +49,16 @@ pub(crate) fn look_through(
     rest: &str,
     room: &mut LineRoom,
 ) -> Result<(), PartFault>
-    requires { MayBegin first.now.of first.now.columns.items first.now.rows first.now.counts }
+    requires { MayBegin first.now.schema first.now.rows first.now.counts }
     ensures is { OnOk result ((text : Bytes) → Begins text first.now rest.now
-        → HasColumns first.now.of first.now.unit first.now.columns.items text) }
+        → HasSchema first.now.schema first.now.unit text) }
     ensures fault { IfErr result (λ fault. (text : Bytes) → Begins text first.now rest.now
         → SumFails text fault) }
 {
     // All rows have one key, of no values, so there is nothing to keep.
-    let sum = TableSum::new(alloc, HashKeys::fixed(), first.of, &[])?;
-    match add_part(alloc, &[], first, rest, sum, room) {
+    let schema = Schema::new(alloc, Of::Spans, &[], &[])?;
+    let sum = TableSum::new(alloc, HashKeys::fixed(), schema);
+    match add_part(alloc, &RowChoice::of(&[], &[]), first, rest, sum, room) {
         Ok(sum) => {
             drop(sum);
             Ok(())
@@ -67,34 +67,35 @@ pub(crate) fn look_through(
     }
 }
 
-// Adds the rows of a table that sums this, which are to be so many, each with the values at these places of its key. Those before a
-// fault are added nevertheless.
+// Adds what is chosen of the rows of a table of this schema, which are to be so many. Those before a fault are added nevertheless.
 fn add_rows(
     alloc: Global,
-    of: Of,
-    columns: &[Column],
-    places: &[usize],
+    schema: &Schema,
+    choice: &RowChoice,
     text: &str,
     count: u64,
     sum: &mut TableSum,
     room: &mut LineRoom,
 ) -> Result<(), PartFault>
-    requires { AreColumns of columns.now }
+    requires { IsSchema schema.now }
     ensures added { OnOk result
-        (AllAdded of columns.now places.now text.now count sum.old.table sum.new.table) }
-    ensures fault { IfErr result (RowsFail of columns.now text.now count) }
+        (AllAdded schema.now choice.now text.now count sum.old.table sum.new.table) }
+    ensures fault { IfErr result (RowsFail schema.now text.now count) }
 {
-    let names = column_names(alloc, columns)?;
+    let names = column_names(alloc, &schema.columns)?;
+    let shape = RowShape {
+        schema,
+        names: &names,
+    };
     let mut last = None;
     let mut rest = text;
     let mut done = 0;
     while let Some((line, after)) = rest.split_once('\n') {
-        let row = match next_row(alloc, of, columns, &names, line, &last, room) {
+        let row = match next_row(alloc, &shape, line, &last, room) {
             Ok(row) => row,
             Err(fault) => return Err(fault),
         };
-        add_row(alloc, sum, places, &row)?;
-        last = Some(row);
+        last = Some(add_row(alloc, sum, choice, row)?);
         rest = after;
         done += 1;
     }
@@ -110,21 +111,19 @@ fn add_rows(
 // The row of the next line, which comes after the last one.
 fn next_row(
     alloc: Global,
-    of: Of,
-    columns: &[Column],
-    names: &[Text],
+    shape: &RowShape,
     line: &str,
     last: &Option<Row>,
     room: &mut LineRoom,
 ) -> Result<Row, PartFault>
-    requires columns { AreColumns of columns.now }
-    requires names { names.now ≡ map column_name columns.now }
-    ensures row { IfOk result (IsNextRow of columns.now line.now last.now) }
+    requires schema { IsSchema shape.now.schema.now }
+    requires names { shape.now.names.now ≡ map column_name shape.now.schema.now.columns }
+    ensures row { IfOk result (IsNextRow shape.now.schema.now line.now last.now) }
     ensures only { IfOk result (λ row. (other : TheRow)
-        → IsNextRow of columns.now line.now last.now other → row ≡ other) }
-    ensures fault { IfErr result (RowFails of columns.now line.now last.now) }
+        → IsNextRow shape.now.schema.now line.now last.now other → row ≡ other) }
+    ensures fault { IfErr result (RowFails shape.now.schema.now line.now last.now) }
 {
-    match row_of_line(alloc, of, columns, names, line, room) {
+    match row_of_line(alloc, shape, line, room) {
         Ok(Some(row)) if comes_after(&row, last) => Ok(row),
         Ok(_) => Err(PartFault::NotTable),
         Err(_) => Err(PartFault::Memory),
@@ -141,19 +140,32 @@ fn comes_after(row: &Row, last: &Option<Row>) -> bool
     }
 }
 
-// Adds a row, which has the values at these places of this one's key.
-fn add_row(alloc: Global, sum: &mut TableSum, places: &[usize], row: &Row) -> Result<(), AllocError>
-    ensures { OnOk result
-        (sum.new.table ≡ with_row sum.old.table (row_at places.now row.now)) }
+// Adds what is chosen of a row, and gives the row back.
+fn add_row(
+    alloc: Global,
+    sum: &mut TableSum,
+    choice: &RowChoice,
+    row: Row,
+) -> Result<Row, AllocError>
+    ensures added { OnOk result
+        (sum.new.table ≡ with_row sum.old.table (row_at choice.now row)) }
+    ensures same { IfOk result (λ back. back ≡ row) }
 {
-    if takes_all(places, row.key.values()) {
-        return sum.add_row(row);
+    let sums = row.sums;
+    let taken = sums.only(choice.set);
+    if takes_all(choice.places, row.key.values()) {
+        let own = Row {
+            key: row.key,
+            sums: taken,
+        };
+        sum.add_row(&own)?;
+        return Ok(Row { key: own.key, sums });
     }
-    let row = Row {
-        key: key_at(alloc, places, &row.key)?,
-        sums: row.sums,
-    };
-    sum.add_row(&row)
+    sum.add_row(&Row {
+        key: key_at(alloc, choice.places, &row.key)?,
+        sums: taken,
+    })?;
+    Ok(row)
 }
 
 // Whether these are the places of all the values, in their order.

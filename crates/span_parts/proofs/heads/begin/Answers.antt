@@ -18,18 +18,17 @@ returns-in-Ok-Some-clause-begins c =
     let first : IsFirstLine line c.in-Ok-Some.first = subst (λ o. IfSome o (IsFirstLine line)) c.in-Ok-Some.field-0-is c.in-Ok-Some.ensures.is in
     let parts = split_parts 10 text (Some (c.in-Some.line, c.in-Some.rest)) c.in-Some.ensures.cases (omega arith) in
     let ends : EndsLine text line rest = λ xs ys whole free. split_after 10 text xs ys (Some (c.in-Some.line, c.in-Some.rest)) c.in-Some.ensures.cases (omega arith) whole (λ i lt. free i 0 lt) in
-    let said : (unit : TimeUnit) (part : SpanTable) → IsPart unit c.args.text.now part → Says part.of unit part.columns (length part.rows) part.counts (Some c.in-Ok-Some.first) × (rest ≡ flat_map (json_line part.of part.columns) part.rows) = λ unit part is.
+    let said : (unit : TimeUnit) (part : SpanTable) → IsPart unit c.args.text.now part → Says part.schema unit (length part.rows) part.counts (Some c.in-Ok-Some.first) × (rest ≡ flat_map (json_line part.schema) part.rows) = λ unit part is.
     let own = subst (λ t. IsPart unit t part) (sym cases.0) is in
-    let found = c.in-Ok-Some.ensures.found part.of unit part.columns (length part.rows) part.counts (begins_so unit text part own) (line-part text line rest ends unit part own) in
-    (subst (Says part.of unit part.columns (length part.rows) part.counts) c.in-Ok-Some.field-0-is found, rest-part text line rest ends unit part own) in
+    let found = c.in-Ok-Some.ensures.found part.schema unit (length part.rows) part.counts (begins_so unit text part own) (line-part text line rest ends unit part own) in
+    (subst (Says part.schema unit (length part.rows) part.counts) c.in-Ok-Some.field-0-is found, rest-part text line rest ends unit part own) in
     record {
       utf8 = cases.1;
       may = first.may;
       printed = sym cases.0 ∙ parts.0 ∙ sym (append_assoc line (10 ∷ []) rest) ∙ ap (λ l. l ++ rest) first.printed;
-      of = λ unit part is. sym (said unit part is).0.0;
+      schema = λ unit part is. sym (said unit part is).0.0;
       unit = λ unit part is. sym (said unit part is).0.1;
-      columns = λ unit part is. sym (said unit part is).0.2;
-      rows = λ unit part is. sym (said unit part is).0.3;
+      rows = λ unit part is. sym (said unit part is).0.2;
       lines = λ unit part is. (said unit part is).1;
     }
 
@@ -38,5 +37,5 @@ returns-in-Ok-None-clause-fault c = λ unit part is.
     let text = c.in-Ok.text.now in
     let ends : EndsLine text c.in-Some.line.now c.in-Some.rest.now = λ xs ys whole free. split_after 10 text xs ys (Some (c.in-Some.line, c.in-Some.rest)) c.in-Some.ensures.cases (omega arith) whole (λ i lt. free i 0 lt) in
     let own = subst (λ t. IsPart unit t part) (sym c.in-Ok.ensures.cases.0) is in
-    let said = c.in-Ok-None.ensures.found part.of unit part.columns _ part.counts (begins_so unit text part own) (line-part text c.in-Some.line.now c.in-Some.rest.now ends unit part own) in
-    subst (Says part.of unit part.columns _ part.counts) c.in-Ok-None.field-0-is said
+    let said = c.in-Ok-None.ensures.found part.schema unit _ part.counts (begins_so unit text part own) (line-part text c.in-Some.line.now c.in-Some.rest.now ends unit part own) in
+    subst (Says part.schema unit _ part.counts) c.in-Ok-None.field-0-is said

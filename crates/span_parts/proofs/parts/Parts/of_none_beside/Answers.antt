@@ -1,31 +1,31 @@
-use Rattle.std.proofs.{Common.{[], sym, ap, subst, ◌∙◌}, lemmas.List.Elements.All-nil}
-use Rattle.span_parts.specs.{add_tables, picked, AreColumns, SpanTable, Sum.PartSum}
+use Rattle.std.proofs.{Common.{◌≡◌, [], sym, ap, subst, ◌∙◌}, lemmas.List.Elements.All-nil}
+use Rattle.span_parts.specs.{add_tables, schema_by, IsSchema, SpanTable, Sum.PartSum}
 use Rattle.span_parts.proofs.parts.Parts.of_none_beside.Goals as goal
 
 pub invariant_of-result : goal.invariant_of-result
 invariant_of-result c =
-    let columns = c.in_ok-copies_of.ensures ∙ c.deref.ensures.value in
-    let places = c.in_ok-copy_of_places.ensures ∙ c.deref-2.ensures.value in
-    record {
-      fit = subst (AreColumns c.self.inside.of) (sym columns) c.self.invariant.fit;
-      kind = ap (λ (t : SpanTable). t.of) c.in_ok-new.ensures.table;
-      by = ap (λ (t : SpanTable). t.columns) c.in_ok-new.ensures.table ∙ c.columns.ensures ∙ c.self.invariant.by ∙ (λ i. picked (sym places i) (sym columns i));
-    }
+    let cloned = c.in_ok-try_clone.ensures in
+    let places = c.in_ok-copy_of_places.ensures ∙ c.deref.ensures.value in
+    let own = c.in_ok-try_clone-2.ensures ∙ c.schema.ensures in
+    let kept = ap (λ (t : SpanTable). t.schema) c.new.ensures.table ∙ own in
+    let same : schema_by (record { places = c.self.inside.places.items; numbers = c.self.inside.sum.table.schema.numbers }) c.self.inside.schema ≡ schema_by (record { places = c.in_ok-copy_of_places.field-0.items; numbers = c.new.result.table.schema.numbers }) c.in_ok-try_clone.field-0 = λ i. schema_by (record { places = sym places i; numbers = (sym kept i).numbers }) (sym cloned i) in
+    record { fit = subst IsSchema (sym cloned) c.self.invariant.fit; by = kept ∙ c.self.invariant.by ∙ same }
 
 pub returns : goal.returns
 returns c =
-    let columns = c.in_ok-copies_of.ensures ∙ c.deref.ensures.value in
-    let places = c.in_ok-copy_of_places.ensures ∙ c.deref-2.ensures.value in
+    let cloned = c.in_ok-try_clone.ensures in
+    let places = c.in_ok-copy_of_places.ensures ∙ c.deref.ensures.value in
+    let own = c.in_ok-try_clone-2.ensures ∙ c.schema.ensures in
+    let kept = ap (λ (t : SpanTable). t.schema) c.new.ensures.table ∙ own in
+    let same : schema_by (record { places = c.self.inside.places.items; numbers = c.self.inside.sum.table.schema.numbers }) c.self.inside.schema ≡ schema_by (record { places = c.in_ok-copy_of_places.field-0.items; numbers = c.new.result.table.schema.numbers }) c.in_ok-try_clone.field-0 = λ i. schema_by (record { places = sym places i; numbers = (sym kept i).numbers }) (sym cloned i) in
     record {
-      of = ap (λ (p : PartSum). p.of) c.self.view_is;
       unit = ap (λ (p : PartSum). p.unit) c.self.view_is;
-      columns = columns ∙ ap (λ (p : PartSum). p.columns) c.self.view_is;
-      places = places ∙ ap (λ (p : PartSum). p.places) c.self.view_is;
+      schema = cloned ∙ ap (λ (p : PartSum). p.schema) c.self.view_is;
+      choice = (λ i. record { places = places i; numbers = (kept i).numbers }) ∙ ap (λ (p : PartSum). p.choice) c.self.view_is;
       sums = record {
         parts = [];
         are = tt;
-        kinds = All-nil _;
-        columns = All-nil _;
-        adds = c.in_ok-new.ensures.table ∙ ap (λ l. add_tables c.self.inside.of l []) (c.columns.ensures ∙ c.self.invariant.by ∙ (λ i. picked (sym places i) (sym columns i)));
+        schemas = All-nil _;
+        adds = c.new.ensures.table ∙ ap (λ s. add_tables s []) (own ∙ c.self.invariant.by ∙ same);
       };
     }
