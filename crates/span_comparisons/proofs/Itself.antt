@@ -33,12 +33,10 @@ module _ (rows : List Row) where
 
   same_as_itself : (sums : Sums) → is_same (record { base = sums; other = sums }) ≡ true
   same_as_itself sums =
-      let self_time : (sums.self_time == sums.self_time) ≡ true = eq-eqb sums.self_time sums.self_time refl in
-      let total : (sums.total == sums.total) ≡ true = eq-eqb sums.total sums.total refl in
-      let count : (sums.count == sums.count) ≡ true = eq-eqb sums.count sums.count refl in
-      let unclosed : (sums.unclosed == sums.unclosed) ≡ true = eq-eqb sums.unclosed sums.unclosed refl in
-      let points : (sums.points == sums.points) ≡ true = eq-eqb sums.points sums.points refl in
-      λ i. self_time i && (total i && (count i && (unclosed i && points i)))
+      λ i. own sums.self_time i && (own sums.total i && (own sums.count i && (own sums.longest i && (own sums.outer i && (own sums.unclosed i && own sums.points i)))))
+    where
+      own : (n : ℕ) → (n == n) ≡ true
+      own n = eq-eqb n n refl
 
   none_changed : (xs : List Row) → filter is_changed (map made xs) ≡ []
   none_changed [] = refl
@@ -65,7 +63,7 @@ comparison_of-itself unit by most wanted says_runs table rise =
     let many : length shown ≡ length (shown_rows wanted rows) = ap length are ∙ length-map (shown_rows wanted rows) (made rows) in
     let every : length all ≡ length rows = ap length (compared-itself rows rise) ∙ length-map rows (made rows) in
     let same : same_count shown ≡ length (shown_rows wanted rows) = omega (arith, length-changes shown, ap length none, many) in
-    (λ i. first_line ++ (unit_line unit ++ (compared_heads says_runs table.counts table.counts ++ (shown_line wanted (many i) (every i) ++ (change_columns table.of table.columns ++
-    (first_lines (change_line table.of) most (ascending (change_order table.of by) (none i)) ++ same_line (same i)))))))
+    (λ i. first_line ++ (unit_line unit ++ (compared_heads says_runs table.counts table.counts ++ (shown_line wanted (many i) (every i) ++ (change_columns table.schema ++
+    (first_lines (change_line table.schema) most (ascending (change_order by table.schema.numbers) (none i)) ++ same_line (same i)))))))
     ∙ ap (λ lines. first_line ++ (unit_line unit ++ (compared_heads says_runs table.counts table.counts ++ (shown_line wanted (length (shown_rows wanted rows)) (length rows) ++
-    (change_columns table.of table.columns ++ (lines ++ same_line (length (shown_rows wanted rows)))))))) (first_lines-none (change_line table.of) most)
+    (change_columns table.schema ++ (lines ++ same_line (length (shown_rows wanted rows)))))))) (first_lines-none (change_line table.schema) most)

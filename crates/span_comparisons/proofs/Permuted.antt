@@ -6,8 +6,8 @@ use Rattle.span_journal.proofs.{Selected.filter-ascending, Sorted.{AllByRecursio
 use Rattle.span_ledger.proofs.Sorting.{ascending-permutation}
 use Rattle.span_table.proofs.Alike.{has_key-append, same_keys}
 use Rattle.span_table_text.proofs.Ranked.{filter-sorted}
-use Rattle.span_comparisons.proofs.Compared.{change_order-total}
-use Rattle.span_comparisons.specs.{ascending, Of, Number, leading_numbers, Row, found_at, key_cmp_total, key_cmp-same, TableKey, key_cmp, Wanted, is_wanted, RowsRise, Changed.{base_keys, is_new, new_keys}, Changes.{Change, by_gap, change_order, compared, compared_at, gaps_order, is_changed, is_same, same_count, shown_changes}, Laws.ComparisonsHaveEachChange}
+use Rattle.span_comparisons.proofs.Compared.{gaps_order-total}
+use Rattle.span_comparisons.specs.{ascending, Number, Row, found_at, key_cmp_total, key_cmp-same, TableKey, key_cmp, Wanted, is_wanted, RowsRise, Changed.{base_keys, is_new, new_keys}, Changes.{Change, by_gap, compared, compared_at, gaps_order, is_changed, is_same, order_numbers, same_count, shown_changes}, Laws.ComparisonsHaveEachChange}
 
 abbrev pub key_of : Row → TableKey
 key_of row = row.key
@@ -203,26 +203,28 @@ gaps_order-apart : (numbers : List Number) (x y : Change) → key_cmp x.key y.ke
 gaps_order-apart [] x y below = ap is_eq below
 gaps_order-apart (number ∷ numbers) x y below = apart (by_gap number x y) (gaps_order numbers x y) (gaps_order-apart numbers x y below)
 
-IsDistinct-sorted : (of : Of) (by : Number) (changes : List Change) → IsStrictlySortedBy (λ (a b : Change). key_cmp a.key b.key) changes → IsDistinct (eq_by_cmp (change_order of by)) changes
+IsDistinct-sorted : (numbers : List Number) (changes : List Change) → IsStrictlySortedBy (λ (a b : Change). key_cmp a.key b.key) changes → IsDistinct (eq_by_cmp (gaps_order numbers)) changes
 unfolding IsStrictlySortedBy IsDistinct
-IsDistinct-sorted of by [] sorted = tt
-IsDistinct-sorted of by (x ∷ xs) sorted = (
-  AllByRecursion-map (λ (y : Change). key_cmp x.key y.key ≡ Less) (λ (y : Change). eq_by_cmp (change_order of by) x y ≡ false)
-      (λ (y : Change) (below : key_cmp x.key y.key ≡ Less). gaps_order-apart (by ∷ leading_numbers of) x y below) xs sorted.0,
-  IsDistinct-sorted of by xs sorted.1,
+IsDistinct-sorted numbers [] sorted = tt
+IsDistinct-sorted numbers (x ∷ xs) sorted = (
+  AllByRecursion-map (λ (y : Change). key_cmp x.key y.key ≡ Less) (λ (y : Change). eq_by_cmp (gaps_order numbers) x y ≡ false)
+      (λ (y : Change) (below : key_cmp x.key y.key ≡ Less). gaps_order-apart numbers x y below) xs sorted.0,
+  IsDistinct-sorted numbers xs sorted.1,
 )
 
 -- no two changes stand at one place
-pub changes-distinct : (of : Of) (by : Number) (wanted : Wanted) (base other : List Row) → IsDistinct (eq_by_cmp (change_order of by)) (filter is_changed (shown_changes wanted (compared base other)))
-changes-distinct of by wanted base other =
+pub changes-distinct : (numbers : List Number) (wanted : Wanted) (base other : List Row) → IsDistinct (eq_by_cmp (gaps_order numbers)) (filter is_changed (shown_changes wanted (compared base other)))
+changes-distinct numbers wanted base other =
     let by_key = λ (a b : Change). key_cmp a.key b.key in
     let keys = map key_of (base ++ other) in
-    IsDistinct-sorted of by (filter is_changed (shown_changes wanted (compared base other)))
+    IsDistinct-sorted numbers (filter is_changed (shown_changes wanted (compared base other)))
     (filter-sorted by_key is_changed (shown_changes wanted (compared base other)) (filter-sorted by_key (λ (c : Change). is_wanted wanted c.key) (compared base other)
     (map-sorted key_cmp (λ (c : Change). c.key) (compared_at base other) (λ key. refl) (ascending key_cmp keys) (ascending-sorted key_cmp_total keys))))
 
 -- so each has its place
 pub changes-each : ComparisonsHaveEachChange
-changes-each of by wanted base other =
+changes-each by numbers wanted base other =
     let changes = filter is_changed (shown_changes wanted (compared base other)) in
-    record { places = ascending-permutation (change_order-total of by) changes (changes-distinct of by wanted base other); order = ascending-sorted (change_order-total of by) changes }
+    let order = order_numbers by numbers in
+    let total = gaps_order-total order in
+    record { places = ascending-permutation total changes (changes-distinct order wanted base other); order = ascending-sorted total changes }

@@ -4,7 +4,7 @@ use Rattle.std.proofs.{Common.{◌≡◌, ℕ, ◌-◌, ◌&&◌, List, [], ◌�
 use Rattle.span_self_time.proofs.Mapped.{filter-map}
 use Rattle.span_keyed_tracks.proofs.SameKeys.{ascending-members}
 use Rattle.span_journal.proofs.Sorted.{map-map}
-use Rattle.span_comparisons.specs.{ascending, Of, Number, leading_numbers, Row, number_by, key_cmp_total, key_cmp-same, TableKey, key_cmp, Wanted, is_wanted, Changes.{Change, by_gap, change_order, changes_of, compared, compared_at, gap_by, is_changed, is_same, same_count, shown_changes, gaps_order}, Laws.{ComparisonsTurn, DifferencesTurn, turned}}
+use Rattle.span_comparisons.specs.{ascending, Number, Row, number_by, key_cmp_total, key_cmp-same, TableKey, key_cmp, Wanted, is_wanted, Changes.{Change, by_gap, change_order, changes_of, compared, compared_at, gap_by, gaps_order, is_changed, is_same, order_numbers, same_count, shown_changes}, Laws.{ComparisonsTurn, DifferencesTurn, turned}}
 use Rattle.span_comparisons.proofs.{Compared.length-changes, Permuted.key_of}
 
 keys-turned : (base other : List Row) → ascending key_cmp (map key_of (other ++ base)) ≡ ascending key_cmp (map key_of (base ++ other))
@@ -28,9 +28,11 @@ is_same-turned c =
     let self_time = nat_eq_equiv.symm other.self_time base.self_time in
     let total = nat_eq_equiv.symm other.total base.total in
     let count = nat_eq_equiv.symm other.count base.count in
+    let longest = nat_eq_equiv.symm other.longest base.longest in
+    let outer = nat_eq_equiv.symm other.outer base.outer in
     let unclosed = nat_eq_equiv.symm other.unclosed base.unclosed in
     let points = nat_eq_equiv.symm other.points base.points in
-    λ i. self_time i && (total i && (count i && (unclosed i && points i)))
+    λ i. self_time i && (total i && (count i && (longest i && (outer i && (unclosed i && points i)))))
 
 filter-turned : (changes : List Change) → filter is_changed (map turned changes) ≡ map turned (filter is_changed changes)
 filter-turned changes = filter-map is_changed turned changes ∙ (λ i. map turned (filter (λ (c : Change). not (is_same-turned c i)) changes))
@@ -47,9 +49,6 @@ by_gap-turned by a b = ap₂ nat_cmp (gap_by-turned by b) (gap_by-turned by a)
 gaps_order-turned : (numbers : List Number) (a b : Change) → gaps_order numbers (turned a) (turned b) ≡ gaps_order numbers a b
 gaps_order-turned [] a b = refl
 gaps_order-turned (number ∷ numbers) a b = λ i. ordering_then (by_gap-turned number a b i) (gaps_order-turned numbers a b i)
-
-change_order-turned : (of : Of) (by : Number) (a b : Change) → change_order of by (turned a) (turned b) ≡ change_order of by a b
-change_order-turned of by a b = gaps_order-turned (by ∷ leading_numbers of) a b
 
 -- what a function that an order does not see makes of rows in order
 module _ {A B : Type 0} (R : A → A → Ordering) (S : B → B → Ordering) (f : A → B) (same : (x y : A) → S (f x) (f y) ≡ R x y) where
@@ -71,9 +70,10 @@ module _ {A B : Type 0} (R : A → A → Ordering) (S : B → B → Ordering) (f
   ascending-map : (xs : List A) → ascending S (map f xs) ≡ map f (ascending R xs)
   ascending-map xs = fold-map [] xs
 
-changes_of-turned : (of : Of) (by : Number) (changes : List Change) → changes_of of by (map turned changes) ≡ map turned (changes_of of by changes)
-changes_of-turned of by changes =
-    ap (ascending (change_order of by)) (filter-turned changes) ∙ ascending-map (change_order of by) (change_order of by) turned (change_order-turned of by) (filter is_changed changes)
+changes_of-turned : (by : Number) (numbers : List Number) (changes : List Change) → changes_of by numbers (map turned changes) ≡ map turned (changes_of by numbers changes)
+changes_of-turned by numbers changes =
+    let order = change_order by numbers in
+    ap (ascending order) (filter-turned changes) ∙ ascending-map order order turned (gaps_order-turned (order_numbers by numbers)) (filter is_changed changes)
 
 same_count-turned : (changes : List Change) → same_count (map turned changes) ≡ same_count changes
 same_count-turned changes =
@@ -81,10 +81,10 @@ same_count-turned changes =
 
 -- the other way round the same keys changed, and as many did not
 pub comparisons-turned : ComparisonsTurn
-comparisons-turned of by wanted base other =
+comparisons-turned by numbers wanted base other =
     let shown = shown_changes wanted (compared base other) in
     let turns : shown_changes wanted (compared other base) ≡ map turned shown = ap (shown_changes wanted) (compared-turned base other) ∙ shown_changes-turned wanted (compared base other) in
-    record { changes = ap (changes_of of by) turns ∙ changes_of-turned of by shown; same = ap same_count turns ∙ same_count-turned shown }
+    record { changes = ap (changes_of by numbers) turns ∙ changes_of-turned by numbers shown; same = ap same_count turns ∙ same_count-turned shown }
 
 -- a difference is as great the other way round
 pub difference_text-turned : DifferencesTurn

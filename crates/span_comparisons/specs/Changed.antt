@@ -1,6 +1,6 @@
 -- How what changed is found: key by key of the base, and then of the other where the base lacks it.
 use Rattle.std.specs.Prelude.{◌≡◌, ℕ, Bool, if◌then◌else◌, [], ◌∷◌, List, filter, is_none, length, map}
-use Rattle.span_comparisons.specs.{Row, Wanted, sums_together, found_at, Changes.{Change, compared_at, is_changed, same_count, shown_changes}}
+use Rattle.span_comparisons.specs.{Row, Wanted, no_sums, found_at, Changes.{Change, compared_at, is_changed, same_count, shown_changes}}
 
 -- the keys of the base
 abbrev pub base_keys : List Row → List Row → List Change
@@ -12,7 +12,7 @@ is_new base row = is_none (found_at base row.key)
 
 -- a key that only the other has
 abbrev pub from_other : Row → Change
-from_other row = record { key = row.key; both = record { base = sums_together []; other = row.sums } }
+from_other row = record { key = row.key; both = record { base = no_sums; other = row.sums } }
 
 -- the key of a row of the other, where the base lacks it
 abbrev pub new_key : List Row → Row → List Change

@@ -1,6 +1,6 @@
--- What changed between two tables of the same columns.
+-- What changed between two tables of the same schema.
 use Rattle.std.specs.{Int.abs_diff, Ordering.{nat_cmp, ordering_then}, Prelude.{ℕ, ◌++◌, Bool, not, List, [], ◌∷◌, map, filter, count_by}, declared.cmp.Ordering.Ordering}
-use Rattle.span_comparisons.specs.{ascending, Of, Number, Row, TableKey, key_cmp, leading_numbers, number_by, same_sums, Wanted, is_wanted, sums_at, declared.changes.Both.Both}
+use Rattle.span_comparisons.specs.{ascending, Closed, Number, Open, Row, TableKey, has_number, is_time, key_cmp, number_by, same_sums, Wanted, is_wanted, sums_at, declared.changes.Both.Both}
 
 -- a key with its sums in both
 pub record Change : Type 0 where
@@ -38,13 +38,17 @@ abbrev pub gaps_order : List Number → Change → Change → Ordering
 gaps_order [] a b = key_cmp a.key b.key
 gaps_order (number ∷ numbers) a b = ordering_then (by_gap number a b) (gaps_order numbers a b)
 
--- by the gap of this number, and then of those that lead
-abbrev pub change_order : Of → Number → Change → Change → Ordering
-change_order of by a b = gaps_order (by ∷ leading_numbers of) a b
+-- this number, then the times among these numbers in their order, and then open and closed as far as they are among them
+abbrev pub order_numbers : Number → List Number → List Number
+order_numbers by numbers = by ∷ (filter is_time numbers ++ filter (has_number numbers) (Open ∷ Closed ∷ []))
+
+-- by the gaps of these, and then by key
+abbrev pub change_order : Number → List Number → Change → Change → Ordering
+change_order by numbers a b = gaps_order (order_numbers by numbers) a b
 
 -- those of which some number differs, in this order
-abbrev pub changes_of : Of → Number → List Change → List Change
-changes_of of by changes = ascending (change_order of by) (filter is_changed changes)
+abbrev pub changes_of : Number → List Number → List Change → List Change
+changes_of by numbers changes = ascending (change_order by numbers) (filter is_changed changes)
 
 -- how many have the same numbers in both
 abbrev pub same_count : List Change → ℕ

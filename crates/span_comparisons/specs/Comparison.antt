@@ -1,6 +1,6 @@
 -- The text of a comparison.
-use Rattle.std.specs.{Ordering.{match_ordering, nat_cmp}, Prelude.{ℕ, ◌-◌, ◌==◌, if◌then◌else◌, Bool, true, List, [], ◌∷◌, ◌++◌, flat_map, length, Option, codes, decimal}}
-use Rattle.span_comparisons.specs.{Bytes, Unit, CountRow, count_line, first_line, line_of, seals_line, unit_line, Column, TableCounts, Of, Number, compared_numbers, is_time, number_by, number_name, runs_line, shown_line, Cell, number_cell, row_line, titles_line, Wanted, SpanTable, Changes.{Change, changes_of, compared, same_count, shown_changes}, First.first_lines, declared.changes.Both.Both}
+use Rattle.std.specs.{Ordering.{match_ordering, nat_cmp}, Prelude.{ℕ, ◌-◌, ◌==◌, if◌then◌else◌, Bool, true, not, List, [], ◌∷◌, ◌++◌, filter, flat_map, length, Option, codes, decimal}}
+use Rattle.span_comparisons.specs.{Bytes, Unit, CountRow, count_line, first_line, line_of, seals_line, unit_line, TableCounts, Number, People, Points, are_same, is_time, number_by, number_name, usual_numbers, Schema, runs_line, shown_line, Cell, number_cell, row_line, titles_line, Wanted, SpanTable, Changes.{Change, changes_of, compared, same_count, shown_changes}, First.first_lines, declared.changes.Both.Both}
 
 -- the head of the base but for its first line: each line has the word before it
 abbrev pub base_lines : CountRow → Bytes
@@ -19,6 +19,16 @@ unfoldable pub compared_heads : Bool → TableCounts → TableCounts → Bytes
 compared_heads says_runs base other =
     base_lines base.entries ++ (base_runs_line says_runs base ++ (other_lines other.entries ++ runs_line says_runs other))
 
+-- the number is a count that is shown; of the usual numbers points aren't
+abbrev pub is_shown_count : Bool → Number → Bool
+is_shown_count usual Points = not usual
+is_shown_count usual number = not (is_time number)
+
+-- the numbers that are shown: the times of a schema in their order, and behind them its counts, without points where its numbers are the usual ones for people
+abbrev pub compared_numbers : Schema → List Number
+compared_numbers schema = let usual = are_same schema.numbers (usual_numbers People schema.of) in
+    filter is_time schema.numbers ++ filter (is_shown_count usual) schema.numbers
+
 -- the titles of a number: how it differs, if it is a time, and what both sides have
 abbrev pub changed_titles : Number → List Cell
 changed_titles number =
@@ -26,8 +36,8 @@ changed_titles number =
     ++ number_cell number (number_name number ++ codes "0") ∷ number_cell number (number_name number ++ codes "1") ∷ []
 
 -- the names of the columns
-abbrev pub change_columns : Of → List Column → Bytes
-change_columns of columns = titles_line (flat_map changed_titles (compared_numbers of)) columns
+abbrev pub change_columns : Schema → Bytes
+change_columns schema = titles_line (flat_map changed_titles (compared_numbers schema)) schema.columns
 
 -- how much more the other has, with `+`, or how much less, with `-`
 abbrev pub difference_text : ℕ → ℕ → Bytes
@@ -40,9 +50,13 @@ changed_cells both number =
     (if is_time number then number_cell number (difference_text base other) ∷ [] else [])
     ++ number_cell number (decimal base) ∷ number_cell number (decimal other) ∷ []
 
+-- a line with these numbers of a change
+abbrev pub numbers_line : List Number → Change → Bytes
+numbers_line numbers change = row_line (flat_map (changed_cells change.both) numbers) change.key
+
 -- the line of a change
-abbrev pub change_line : Of → Change → Bytes
-change_line of change = row_line (flat_map (changed_cells change.both) (compared_numbers of)) change.key
+abbrev pub change_line : Schema → Change → Bytes
+change_line schema change = numbers_line (compared_numbers schema) change
 
 -- how many keys did not change
 unfoldable pub same_line : ℕ → Bytes
@@ -53,5 +67,6 @@ abbrev pub comparison_of : Unit → Number → Option ℕ → Wanted → Bool �
 comparison_of unit by most wanted says_runs base other =
     let all = compared base.rows other.rows in
     let shown = shown_changes wanted all in
+    let schema = other.schema in
     first_line ++ (unit_line unit ++ (compared_heads says_runs base.counts other.counts ++ (shown_line wanted (length shown) (length all) ++
-    (change_columns other.of other.columns ++ (first_lines (change_line other.of) most (changes_of other.of by shown) ++ same_line (same_count shown))))))
+    (change_columns schema ++ (first_lines (change_line schema) most (changes_of by schema.numbers shown) ++ same_line (same_count shown))))))

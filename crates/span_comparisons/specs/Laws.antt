@@ -1,13 +1,13 @@
 -- The facts that hold of every comparison and every text of repeated runs.
 use Rattle.std.specs.{List.Sorted.{IsNonDecreasing, IsPermutation, IsStrictlySortedBy}, Prelude.{◌≡◌, ℕ, Bool, ◌+◌, ◌-◌, ◌<◌, List, ◌++◌, codes, decimal, filter, length, map, Option}}
-use Rattle.span_comparisons.specs.{Unit, first_line, unit_line, Column, Of, Number, Row, shown_line, Wanted, shown_rows, RowsRise, SpanTable, Changes.{Change, change_order, changes_of, compared, is_changed, same_count, shown_changes}, Comparison.{change_columns, compared_heads, comparison_of, difference_text, same_line}, Repeats.repeats_of, Spreads.{Spreads, apart_spreads, is_apart, overlap_count, same_spread_count, shown_spreads, sorted, spread_order}}
+use Rattle.span_comparisons.specs.{Unit, first_line, unit_line, Column, Number, Row, shown_line, Wanted, shown_rows, RowsRise, SpanTable, Changes.{Change, change_order, changes_of, compared, is_changed, same_count, shown_changes}, Comparison.{change_columns, compared_heads, comparison_of, difference_text, same_line}, Repeats.repeats_of, Spreads.{Spreads, apart_spreads, is_apart, overlap_count, same_spread_count, shown_spreads, sorted, spread_order}}
 
 -- between a table and itself nothing changed: below the names of the columns is how many keys are shown
 abbrev pub ComparesWithItself : Unit → Number → Option ℕ → Wanted → Bool → SpanTable → Type 0
 ComparesWithItself unit by most wanted says_runs table = let shown = length (shown_rows wanted table.rows) in
     comparison_of unit by most wanted says_runs table table
     ≡ first_line ++ (unit_line unit ++ (compared_heads says_runs table.counts table.counts ++
-    (shown_line wanted shown (length table.rows) ++ (change_columns table.of table.columns ++ same_line shown))))
+    (shown_line wanted shown (length table.rows) ++ (change_columns table.schema ++ same_line shown))))
 
 -- this holds of each table, in whatever unit and order
 abbrev pub TablesCompareWithThemselves : Type 0
@@ -22,22 +22,22 @@ abbrev pub shown_between : Wanted → List Row → List Row → List Change
 shown_between wanted base other = shown_changes wanted (compared base other)
 
 -- the other way round the same keys changed, printed in the same order, and as many did not
-pub record TurnsEachChange (of : Of) (by : Number) (wanted : Wanted) (base other : List Row) : Type 0 where
-  pub changes : changes_of of by (shown_between wanted other base) ≡ map turned (changes_of of by (shown_between wanted base other))
+pub record TurnsEachChange (by : Number) (numbers : List Number) (wanted : Wanted) (base other : List Row) : Type 0 where
+  pub changes : changes_of by numbers (shown_between wanted other base) ≡ map turned (changes_of by numbers (shown_between wanted base other))
   pub same : same_count (shown_between wanted other base) ≡ same_count (shown_between wanted base other)
 
--- this holds of any two lists of rows, by whatever number
+-- this holds of any two lists of rows, by whatever number, whichever numbers are shown
 abbrev pub ComparisonsTurn : Type 0
-ComparisonsTurn = (of : Of) (by : Number) (wanted : Wanted) (base other : List Row) → TurnsEachChange of by wanted base other
+ComparisonsTurn = (by : Number) (numbers : List Number) (wanted : Wanted) (base other : List Row) → TurnsEachChange by numbers wanted base other
 
 -- each key of which a number differs has its place, and no two stand at one place
-pub record ShowsEachChange (of : Of) (by : Number) (keys : List Change) : Type 0 where
-  pub places : IsPermutation (filter is_changed keys) (changes_of of by keys)
-  pub order : IsStrictlySortedBy (change_order of by) (changes_of of by keys)
+pub record ShowsEachChange (by : Number) (numbers : List Number) (keys : List Change) : Type 0 where
+  pub places : IsPermutation (filter is_changed keys) (changes_of by numbers keys)
+  pub order : IsStrictlySortedBy (change_order by numbers) (changes_of by numbers keys)
 
--- this holds of the keys that are shown of any two lists of rows, by whatever number
+-- this holds of the keys that are shown of any two lists of rows, by whatever number, whichever numbers are shown
 abbrev pub ComparisonsHaveEachChange : Type 0
-ComparisonsHaveEachChange = (of : Of) (by : Number) (wanted : Wanted) (base other : List Row) → ShowsEachChange of by (shown_between wanted base other)
+ComparisonsHaveEachChange = (by : Number) (numbers : List Number) (wanted : Wanted) (base other : List Row) → ShowsEachChange by numbers (shown_between wanted base other)
 
 -- where one number is less than another, the difference is printed with `+` to the greater and with `-` back, and is as great
 abbrev pub DifferencesTurn : Type 0

@@ -1,7 +1,7 @@
 -- The texts of repeated runs: for people, and for machines.
 use Rattle.std.specs.{List.list_all, Prelude.{ℕ, ◌^◌, nat_lt, Bool, true, ◌&&◌, List, [], ◌∷◌, ◌++◌, flat_map, length, map, Option, codes, decimal}}
 use Rattle.json.specs.Token as token
-use Rattle.span_comparisons.specs.{Bytes, Unit, first_line, line_of, unit_line, Column, TableCounts, Of, Number, TableKey, shown_line, Cell, row_line, titles_line, Wanted, SpanTable, counts_together, key_tokens, token_line, Comparison.{compared_heads, difference_text}, First.first_lines, JsonChanges.{heads_fit, json_heads}, Spreads.{Spreads, all_keys, apart_spreads, overlap_count, same_spread_count, shown_keys, shown_spreads, values_at}}
+use Rattle.span_comparisons.specs.{Bytes, Unit, first_line, line_of, unit_line, Column, TableCounts, Number, TableKey, shown_line, Cell, row_line, titles_line, Wanted, Schema, SpanTable, counts_together, usual_schema, key_tokens, token_line, Comparison.{compared_heads, difference_text}, First.first_lines, JsonChanges.{heads_fit, json_heads}, Spreads.{Spreads, all_keys, apart_spreads, overlap_count, same_spread_count, shown_keys, shown_spreads, values_at}}
 
 -- the counts of a side's repetitions added
 abbrev pub side_counts : List SpanTable → TableCounts
@@ -51,11 +51,12 @@ json_values columns key base other =
 abbrev pub json_values_at : Number → List Column → List SpanTable → List SpanTable → TableKey → Bytes
 json_values_at by columns base other key = json_values columns key (values_at by base key) (values_at by other key)
 
--- the first line as of a comparison, and then one for each key that is shown, in ascending order
-abbrev pub json_repeats_of : Unit → Of → Number → Wanted → List Column → List SpanTable → List SpanTable → Bytes
-json_repeats_of unit of by wanted columns base other =
+-- the first line as of a comparison of the usual numbers, and then one for each key that is shown, in ascending order
+abbrev pub json_repeats_of : Unit → Number → Wanted → Schema → List SpanTable → List SpanTable → Bytes
+json_repeats_of unit by wanted schema base other =
     let keys = shown_keys wanted (base ++ other) in
-    json_heads of unit columns (length keys) (same_spread_count (shown_spreads by wanted base other)) (side_counts base) (side_counts other) ++ flat_map (json_values_at by columns base other) keys
+    let first = usual_schema schema.of schema.columns in
+    json_heads first unit (length keys) (same_spread_count (shown_spreads by wanted base other)) (side_counts base) (side_counts other) ++ flat_map (json_values_at by schema.columns base other) keys
 
 -- all of the values have 64 bits
 abbrev pub values_fit : List ℕ → Bool

@@ -1,8 +1,9 @@
-//! What changed between two tables of the same columns.
+//! What changed between two tables of the same schema.
 ghost use Rattle.std.specs.Prelude.{◌≡◌, ◌++◌, ◌∷◌, [], ◌<◌, ◌≤◌, ◌+◌, ◌-◌, ◌^◌, List, length, IfOk, OnOk};
-ghost use Rattle.span_comparisons.specs.{RowsRise, Changed.{Classifies, base_keys, new_key, new_keys}, Changes.{Change, by_gap, change_order, changes_of, compared, gap_by, gaps_order, is_changed, same_count, shown_changes}};
+ghost use Rattle.span_comparisons.specs.{RowsRise, Changed.{Classifies, base_keys, new_key, new_keys}, Changes.{Change, by_gap, changes_of, compared, gap_by, gaps_order, is_changed, same_count, shown_changes}};
 
-use span_table::{Key, Number, Of, Row, Sums, row_at, sums_at};
+use crate::numbers::order_numbers;
+use span_table::{Key, Number, Row, Sums, row_at, sums_at};
 use span_table_text::Shown;
 use std::alloc::{AllocError, Global};
 use std::cmp::Ordering;
@@ -43,22 +44,14 @@ impl<'a> Changed<'a> {
         self.both.base.by(by).abs_diff(self.both.other.by(by))
     }
 
-    // Which of two comes first.
-    fn compare(&self, other: &Changed<'a>, of: Of, by: Number) -> Ordering
-        ensures { result ≡ change_order of by self.now other.now }
-    {
-        let leading = self.compare_gaps(other, of.leading());
-        self.by_gap(other, by).then(leading)
-    }
-
     // Which of two comes first by how far these numbers lie apart, one after another, and then by key.
-    fn compare_gaps(&self, other: &Changed<'a>, numbers: &[Number]) -> Ordering
+    fn compare(&self, other: &Changed<'a>, numbers: &[Number]) -> Ordering
         ensures { result ≡ gaps_order numbers.now self.now other.now }
     {
         let Some((number, numbers)) = numbers.split_first() else {
             return self.key.cmp(other.key);
         };
-        let rest = self.compare_gaps(other, numbers);
+        let rest = self.compare(other, numbers);
         self.by_gap(other, *number).then(rest)
     }
 
@@ -88,10 +81,10 @@ struct Classified<'a> {
     all: u128,
 }
 
-/// What changed from the base to the other, the greatest change of a number first.
+/// What changed from the base to the other, of whose rows these numbers are shown, the greatest change of one number first.
 pub(crate) fn differences<'a>(
     alloc: Global,
-    of: Of,
+    numbers: &[Number],
     base: &'a [Row],
     other: &'a [Row],
     shown: &Shown,
@@ -100,7 +93,7 @@ pub(crate) fn differences<'a>(
     requires base { RowsRise base.now }
     requires other { RowsRise other.now }
     ensures changes { IfOk result (λ found. found.changes.items
-        ≡ changes_of of by (shown_changes shown.now (compared base.now other.now))) }
+        ≡ changes_of by numbers.now (shown_changes shown.now (compared base.now other.now))) }
     ensures same { IfOk result (λ found. found.same
         ≡ same_count (shown_changes shown.now (compared base.now other.now))) }
     ensures shown { IfOk result (λ found. found.shown
@@ -120,7 +113,8 @@ pub(crate) fn differences<'a>(
         all,
     } = found;
     let shown = changes.len() as u128 + same;
-    changes.sort_unstable_by(|a, b| a.compare(b, of, by));
+    let order = order_numbers(alloc, by, numbers)?;
+    changes.sort_unstable_by(|a, b| a.compare(b, &order));
     Ok(ComparedTables {
         changes,
         same,

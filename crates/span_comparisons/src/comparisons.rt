@@ -1,19 +1,20 @@
 //! The text of a comparison of two tables.
 ghost use Rattle.std.specs.Prelude.{◌≡◌, ◌++◌, string_bytes, flat_map, OnOk, IfOk};
-ghost use Rattle.span_comparisons.specs.Comparison.{base_lines, base_runs_line, change_line, changed_cells, changed_titles, compared_heads, comparison_of, difference_text, other_lines, same_line};
+ghost use Rattle.span_comparisons.specs.Comparison.{base_lines, base_runs_line, changed_cells, changed_titles, compared_heads, comparison_of, difference_text, numbers_line, other_lines, same_line};
 ghost use Rattle.span_comparisons.specs.First.{first_lines};
 
 use crate::changes::{Both, Changed, differences};
 use crate::comparing::{Comparing, first_of, put_more};
+use crate::numbers::compared_numbers;
 use span_report::{first_line, put_unit};
-use span_table::{EntryCounts, Number, Of, Table, TableCounts};
+use span_table::{EntryCounts, Number, Table, TableCounts};
 use span_table_text::lines::{put_counts, put_runs, put_seals, put_shown};
 use span_table_text::rows::{Cell, put_row, put_titles};
 use std::alloc::{AllocError, Global};
 use std::cmp::Ordering;
 
-/// The text of the comparison of two tables, of the same by the same columns: of the keys that are shown those of which a number
-/// differs, the greatest change of this number first. The heads say how many runs there are or don't.
+/// The text of the comparison of two tables of the same schema: of the keys that are shown those of which a number differs, the
+/// greatest change of the number that is asked for first. The heads say how many runs there are or don't.
 pub fn comparison(
     alloc: Global,
     base: &Table,
@@ -33,12 +34,13 @@ pub fn comparison(
     let mut out = first_line(alloc)?;
     put_unit(&mut out, unit)?;
     put_heads(&mut out, &base.counts(), &other.counts(), says_runs)?;
-    let of = other.kind();
-    let found = differences(alloc, of, base.rows(), other.rows(), shown, by)?;
+    let schema = other.schema();
+    let found = differences(alloc, &schema.numbers, base.rows(), other.rows(), shown, by)?;
     put_shown(&mut out, shown, found.shown, found.all)?;
-    let titles = titles_of(alloc, of.compared())?;
-    put_titles(alloc, &mut out, &titles, other.columns())?;
-    put_first_changes(alloc, &mut out, of, &found.changes, most)?;
+    let numbers = compared_numbers(alloc, schema)?;
+    let titles = titles_of(alloc, &numbers)?;
+    put_titles(alloc, &mut out, &titles, &schema.columns)?;
+    put_first_changes(alloc, &mut out, &numbers, &found.changes, most)?;
     put_same(&mut out, found.same)?;
     Ok(out.into_bytes())
 }
@@ -90,33 +92,33 @@ fn put_other(out: &mut String, entries: &EntryCounts) -> Result<(), AllocError>
     put_seals(out, entries.seals)
 }
 
-// Appends a line for each of the first changes, and how many more there are.
+// Appends a line with these numbers for each of the first changes, and how many more there are.
 fn put_first_changes(
     alloc: Global,
     out: &mut String,
-    of: Of,
+    numbers: &[Number],
     changes: &[Changed],
     most: Option<u32>,
 ) -> Result<(), AllocError>
     ensures { OnOk result (string_bytes out.new
-        ≡ string_bytes out.old ++ first_lines (change_line of) most changes.now) }
+        ≡ string_bytes out.old ++ first_lines (numbers_line numbers.now) most changes.now) }
 {
     let first = first_of(changes, most);
-    put_changes(alloc, out, of, first)?;
+    put_changes(alloc, out, numbers, first)?;
     put_more(out, changes.len() - first.len())
 }
 
 fn put_changes(
     alloc: Global,
     out: &mut String,
-    of: Of,
+    numbers: &[Number],
     changes: &[Changed],
 ) -> Result<(), AllocError>
     ensures { OnOk result (string_bytes out.new
-        ≡ string_bytes out.old ++ flat_map (change_line of) changes.now) }
+        ≡ string_bytes out.old ++ flat_map (numbers_line numbers.now) changes.now) }
 {
     for change in changes {
-        let cells = cells_of(alloc, of.compared(), &change.both)?;
+        let cells = cells_of(alloc, numbers, &change.both)?;
         put_row(alloc, out, &cells, change.key)?;
     }
     Ok(())

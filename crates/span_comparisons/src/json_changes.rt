@@ -5,30 +5,37 @@ ghost use Rattle.span_table.specs.Columns.{column_name};
 ghost use Rattle.span_comparisons.specs.{Appends, TooGreat, counts_fit, fit, number_name, number_tokens, start_tokens, JsonChanges.{both_counts_tokens, both_fit, both_tokens, heads_fit, json_change, json_changes_fit, json_comparison_of, json_heads, side_tokens}};
 
 use crate::changes::{Both, Changed, ComparedTables, differences};
+use crate::comparing::Comparing;
 use json::Writer;
 use span_event::{Text, Unit};
-use span_table::{Column, Number, Of, Table, TableCounts, counts_fit, fits};
+use span_table::{Number, Schema, Table, TableCounts, counts_fit, fits};
+use span_table_text::JsonFault;
 use span_table_text::members::{column_names, ended, put_counts, put_key, put_number, put_start};
-use span_table_text::{JsonFault, Shown};
 use std::alloc::{AllocError, Global};
 
-/// What changed between two tables, of the same by the same columns, in a unit, for machines: of the keys that are shown those of which
-/// a number differs, the greatest change first of the number that rows go by where none is named.
+/// What changed between two tables of the same schema, for machines: of the keys that are shown those of which a number differs, the
+/// greatest change of the number that is asked for first.
 pub fn json_comparison(
     alloc: Global,
-    unit: Unit,
     base: &Table,
     other: &Table,
-    shown: &Shown,
+    asked: &Comparing,
 ) -> Result<Vec<u8>, JsonFault>
-    ensures text { IfOk result (λ text. text.items
-        ≡ json_comparison_of unit shown.now base.now other.now) }
-    ensures fits { OnOk result (json_changes_fit shown.now base.now other.now ≡ true) }
+    ensures text { IfOk result (λ text. text.items ≡ json_comparison_of asked.now.unit
+        asked.now.by asked.now.shown.now base.now other.now) }
+    ensures fits { OnOk result (json_changes_fit asked.now.by asked.now.shown.now base.now
+        other.now ≡ true) }
     ensures too_great { IfErr result (λ fault. fault ≡ TooGreat
-        → json_changes_fit shown.now base.now other.now ≡ false) }
+        → json_changes_fit asked.now.by asked.now.shown.now base.now other.now ≡ false) }
 {
-    let of = other.kind();
-    let Ok(found) = differences(alloc, of, base.rows(), other.rows(), shown, of.by()) else {
+    let Comparing {
+        unit,
+        by,
+        shown,
+        ..
+    } = *asked;
+    let numbers = &other.schema().numbers;
+    let Ok(found) = differences(alloc, numbers, base.rows(), other.rows(), shown, by) else {
         return Err(JsonFault::Memory);
     };
     if !heads_fit(found.same, &base.counts(), &other.counts()) || !all_fit(&found.changes) {
@@ -62,16 +69,15 @@ fn text_of(
 ) -> Result<Vec<u8>, AllocError>
     requires heads { heads_fit found.now.same base.now.counts other.now.counts ≡ true }
     requires changes { list_all both_fit found.now.changes.items ≡ true }
-    ensures { IfOk result (λ text. text.items ≡ json_heads other.now.of unit other.now.columns
+    ensures { IfOk result (λ text. text.items ≡ json_heads other.now.schema unit
         (length found.now.changes.items) found.now.same base.now.counts other.now.counts
-        ++ flat_map (json_change other.now.of other.now.columns) found.now.changes.items) }
+        ++ flat_map (json_change other.now.schema) found.now.changes.items) }
 {
-    let (of, columns) = (other.kind(), other.columns());
-    let names = column_names(alloc, columns)?;
+    let schema = other.schema();
+    let names = column_names(alloc, &schema.columns)?;
     let first = FirstLine {
-        of,
+        schema,
         unit,
-        columns,
         names: &names,
         rows: found.changes.len() as u64,
         same: found.same as u64,
@@ -92,9 +98,8 @@ fn text_of(
 /// What the first line of a comparison says. The columns have these names.
 #[derive(Drop)]
 pub(crate) struct FirstLine<'a> {
-    pub(crate) of: Of,
+    pub(crate) schema: &'a Schema,
     pub(crate) unit: Unit,
-    pub(crate) columns: &'a [Column],
     pub(crate) names: &'a [Text],
     pub(crate) rows: u64,
     pub(crate) same: u64,
@@ -106,12 +111,11 @@ impl<'a> FirstLine<'a> {
     /// A text with the line behind it.
     #[tactic(auto, unfolding(crate::specs::JsonChanges::json_heads))]
     pub(crate) fn line(&self, out: Vec<u8>) -> Result<Vec<u8>, AllocError>
-        requires names { self.now.names.now ≡ map column_name self.now.columns.now }
+        requires names { self.now.names.now ≡ map column_name self.now.schema.now.columns }
         requires base { counts_fit self.now.base ≡ true }
         requires other { counts_fit self.now.other ≡ true }
-        ensures { IfOk result (λ new. new.items ≡ out.items ++ json_heads self.now.of
-            self.now.unit self.now.columns.now self.now.rows self.now.same self.now.base
-            self.now.other) }
+        ensures { IfOk result (λ new. new.items ≡ out.items ++ json_heads self.now.schema.now
+            self.now.unit self.now.rows self.now.same self.now.base self.now.other) }
     {
         let mut writer = Writer::new(out);
         self.put(&mut writer)?;
@@ -119,14 +123,14 @@ impl<'a> FirstLine<'a> {
     }
 
     fn put(&self, writer: &mut Writer) -> Result<(), AllocError>
-        requires names { self.now.names.now ≡ map column_name self.now.columns.now }
+        requires names { self.now.names.now ≡ map column_name self.now.schema.now.columns }
         requires base { counts_fit self.now.base ≡ true }
         requires other { counts_fit self.now.other ≡ true }
-        ensures { Appends result writer.old writer.new (start_tokens self.now.of self.now.unit
-            self.now.columns.now (both_counts_tokens self.now.rows self.now.same self.now.base
+        ensures { Appends result writer.old writer.new (start_tokens self.now.schema.now
+            self.now.unit (both_counts_tokens self.now.rows self.now.same self.now.base
             self.now.other ++ end_object ∷ [])) }
     {
-        put_start(writer, self.of, self.unit, self.columns, self.names)?;
+        put_start(writer, self.schema, self.unit, self.names)?;
         self.put_numbers(writer)?;
         writer.end_object()
     }
@@ -148,15 +152,16 @@ impl<'a> FirstLine<'a> {
     // A text with the line of a change behind it.
     #[tactic(auto, unfolding(crate::specs::JsonChanges::json_change), using(std::proofs::Common::append_assoc))]
     fn change(&self, alloc: Global, out: Vec<u8>, change: &Changed) -> Result<Vec<u8>, AllocError>
-        requires names { self.now.names.now ≡ map column_name self.now.columns.now }
+        requires names { self.now.names.now ≡ map column_name self.now.schema.now.columns }
         requires fits { both_fit change.now ≡ true }
         ensures { IfOk result (λ new. new.items
-            ≡ out.items ++ json_change self.now.of self.now.columns.now change.now) }
+            ≡ out.items ++ json_change self.now.schema.now change.now) }
     {
+        let (schema, names) = (self.schema, self.names);
         let mut writer = Writer::new(out);
         writer.begin_object()?;
-        put_key(&mut writer, self.columns, self.names, change.key.values())?;
-        put_both(alloc, &mut writer, self.of.numbers(), &change.both)?;
+        put_key(&mut writer, &schema.columns, names, change.key.values())?;
+        put_both(alloc, &mut writer, &schema.numbers, &change.both)?;
         writer.end_object()?;
         ended(writer)
     }

@@ -10,23 +10,22 @@ use crate::repeated::repeated;
 use crate::sides::{Side, side_counts};
 use json::Writer;
 use span_event::Text;
-use span_table::{Column, Key, Number, Of, Table};
+use span_table::{Column, Key, Number, Schema, Table};
 use span_table_text::JsonFault;
 use span_table_text::members::{column_names, ended, put_key};
 use std::alloc::{AllocError, Global};
 
-/// What runs that were repeated on each of two sides have by a number, for machines: a table for each repetition, all of the same by
-/// the same columns. Of each key that is shown the values in the order of the repetitions.
+/// What runs that were repeated on each of two sides have by a number, for machines: a table for each repetition, all of the same
+/// schema. Of each key that is shown the values in the order of the repetitions.
 pub fn json_repeats(
     alloc: Global,
-    of: Of,
-    columns: &[Column],
+    schema: &Schema,
     base: &[Table],
     other: &[Table],
     asked: &Comparing,
 ) -> Result<Vec<u8>, JsonFault>
-    ensures text { IfOk result (λ text. text.items ≡ json_repeats_of asked.now.unit of
-        asked.now.by asked.now.shown.now columns.now base.now other.now) }
+    ensures text { IfOk result (λ text. text.items ≡ json_repeats_of asked.now.unit asked.now.by
+        asked.now.shown.now schema.now base.now other.now) }
     ensures fits { OnOk result (json_repeats_fit asked.now.by asked.now.shown.now base.now
         other.now ≡ true) }
     ensures too_great { IfErr result (λ fault. fault ≡ TooGreat
@@ -43,11 +42,11 @@ pub fn json_repeats(
     if !heads_fit(found.same, &base_counts, &other_counts) {
         return Err(JsonFault::TooGreat);
     }
-    let names = column_names(alloc, columns)?;
+    let usual = Schema::usual(alloc, schema.of, &schema.columns)?;
+    let names = column_names(alloc, &usual.columns)?;
     let first = FirstLine {
-        of,
+        schema: &usual,
         unit,
-        columns,
         names: &names,
         rows: found.keys.len() as u64,
         same: found.same as u64,
@@ -56,7 +55,7 @@ pub fn json_repeats(
     };
     let mut out = first.line(Vec::new(alloc))?;
     let lines = Lines {
-        columns,
+        columns: &usual.columns,
         names: &names,
         by,
     };

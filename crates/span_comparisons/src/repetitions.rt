@@ -27,8 +27,8 @@ const TITLES: [&str; 7] = [
     "greatest1",
 ];
 
-/// The text of runs that were repeated on each of two sides: a table for each repetition, all of the same by the same columns. Of the
-/// keys that are shown those of which the sides are apart by a number, the greatest change of its median first.
+/// The text of runs that were repeated on each of two sides: a table for each repetition, all of the same schema, by these columns. Of
+/// the keys that are shown those of which the sides are apart by a number, the greatest change of its median first.
 pub fn repeats(
     alloc: Global,
     columns: &[Column],

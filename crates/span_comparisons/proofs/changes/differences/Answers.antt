@@ -1,8 +1,8 @@
 use Rattle.std.specs.{List.Sorted.IsPermutation, Prelude.filter}
-use Rattle.std.proofs.{Common.{rules, ◌++◌, sym, subst, ◌∙◌, arith}, lemmas.List.Sorted.{IsPermutation-trans, length_permutation}}
+use Rattle.std.proofs.{Common.{rules, List, ◌++◌, sym, ap, subst, ◌∙◌, arith}, lemmas.List.Sorted.{IsPermutation-trans, length_permutation}}
 use Rattle.span_keyed_tracks.proofs.Sorting.{IsSorted-from_sort_by, sorted-ascending}
-use Rattle.span_comparisons.specs.{Changed.{base_keys, new_keys}, Changes.{compared, is_changed, shown_changes}}
-use Rattle.span_comparisons.proofs.{Compared.{Classifies-few, change_order-total, length-changes}, Permuted.{changes-distinct, length-classified, same_count-classified, shown-permuted}}
+use Rattle.span_comparisons.specs.{ascending, Number, Changed.{base_keys, new_keys}, Changes.{compared, gaps_order, is_changed, shown_changes}}
+use Rattle.span_comparisons.proofs.{Compared.{Classifies-few, gaps_order-total, length-changes}, Permuted.{changes-distinct, length-classified, same_count-classified, shown-permuted}}
 use Rattle.span_comparisons.proofs.changes.differences.Goals as goal
 
 pub overflow_add-shown : goal.overflow_add-shown
@@ -16,13 +16,15 @@ returns-clause-changes c =
     let base = c.args.base.now in
     let other = c.args.other.now in
     let wanted = c.args.shown.now in
-    let total = change_order-total c.args.of c.args.by in
+    let order = c.in_ok-order.order.items in
+    let total = gaps_order-total order in
     let sorted = c.sort_unstable_by.new.self.items in
     let found = c.classify_new.new.found.changes.items in
     let rows = filter is_changed (shown_changes wanted (compared base other)) in
     let among = subst (IsPermutation rows) (sym c.in_ok-classify_new.ensures.classified.changes) (shown-permuted base other wanted c.requires.base c.requires.other is_changed) in
-    sorted-ascending total rows sorted (changes-distinct c.args.of c.args.by wanted base other) (IsPermutation-trans rows found sorted among c.sort_unstable_by.ensures.permutation)
+    sorted-ascending total rows sorted (changes-distinct order wanted base other) (IsPermutation-trans rows found sorted among c.sort_unstable_by.ensures.permutation)
     (IsSorted-from_sort_by total sorted c.sort_unstable_by.ensures.sorted (λ a r f' call. search rules))
+    ∙ ap (λ (numbers : List Number). ascending (gaps_order numbers) rows) c.in_ok-order.ensures
 
 pub returns-clause-same : goal.returns-clause-same
 returns-clause-same c = c.in_ok-classify_new.ensures.classified.same ∙ same_count-classified c.args.base.now c.args.other.now c.args.shown.now c.requires.base c.requires.other

@@ -8,6 +8,6 @@ pub returns : goal.returns
 returns c =
     let line = c.args.self.now in
     let numbers = both_counts_tokens line.rows line.same line.base line.other in
-    subst (Appends c.end_object.result c.args.writer.now c.end_object.new.self) (append_assoc (start_tokens line.of line.unit line.columns.now []) numbers (end_object ∷ [])
-    ∙ start_tokens-append line.of line.unit line.columns.now (numbers ++ end_object ∷ []))
+    subst (Appends c.end_object.result c.args.writer.now c.end_object.new.self) (append_assoc (start_tokens line.schema.now line.unit []) numbers (end_object ∷ [])
+    ∙ start_tokens-append line.schema.now line.unit (numbers ++ end_object ∷ []))
     (Appends-one c.end_object.result (Follow-append c.in_ok-put_start.ensures c.in_ok-put_numbers.ensures) c.end_object.ensures)
