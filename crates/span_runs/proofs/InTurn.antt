@@ -2,7 +2,7 @@
 use Rattle.std.proofs.Common.{◌≡◌, ◌<◌, List, [], ◌∷◌, refl}
 use Rattle.span_collect.proofs.InTurn.Accounted.{AreAlike-in_turn, unread_of-in_turn}
 use Rattle.span_table.proofs.SameTables.{table_of-alike}
-use Rattle.span_runs.specs.{Entry, FileEnd, Input, Asked, Sealing, Settings, AreSeparate, status_of, SealedAccount, Column, Of, AreAlikeRuns, Runs.{run_in_turn, run_of_files, table_of_run}}
+use Rattle.span_runs.specs.{Entry, FileEnd, Input, Asked, Sealing, Settings, AreSeparate, status_of, SealedAccount, Schema, AreAlikeRuns, Runs.{run_in_turn, run_of_files, table_of_run}}
 
 module _ (files : List Input) (settings : Settings) (ends : List FileEnd) (asked : Asked) (sealing : Sealing) (journal : List Entry)
     (account : SealedAccount files [] settings ends asked sealing journal) (separate : AreSeparate settings.unit files) (below : status_of ends asked sealing < 2) where
@@ -16,5 +16,5 @@ module _ (files : List Input) (settings : Settings) (ends : List FileEnd) (asked
   }
 
   -- so they have the same tables
-  pub table_of_run-in_turn : (of : Of) (columns : List Column) → table_of_run of columns (run_of_files files ends journal) ≡ table_of_run of columns (run_in_turn settings files)
-  table_of_run-in_turn of columns = table_of-alike of columns (run_of_files files ends journal ∷ []) (run_in_turn settings files ∷ []) (AreAlikeRuns-in_turn, tt)
+  pub table_of_run-in_turn : (schema : Schema) → table_of_run schema (run_of_files files ends journal) ≡ table_of_run schema (run_in_turn settings files)
+  table_of_run-in_turn schema = table_of-alike schema (run_of_files files ends journal ∷ []) (run_in_turn settings files ∷ []) (AreAlikeRuns-in_turn, tt)

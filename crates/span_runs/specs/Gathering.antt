@@ -1,10 +1,10 @@
 -- What runs come to where each has a table of its own, and what takes one more.
 use Rattle.std.specs.Prelude.{◌≡◌, List, [], ◌∷◌, ◌++◌, map}
-use Rattle.span_runs.specs.{Column, Of, Run, AreAlikeRuns, SpanTable, Runs.table_of_run}
+use Rattle.span_runs.specs.{Schema, Run, AreAlikeRuns, SpanTable, Runs.table_of_run}
 
 -- a table of each, in their order
-abbrev pub AreTablesOf : Of → List Column → List Run → List SpanTable → Type 0
-AreTablesOf of columns runs tables = tables ≡ map (table_of_run of columns) runs
+abbrev pub AreTablesOf : Schema → List Run → List SpanTable → Type 0
+AreTablesOf schema runs tables = tables ≡ map (table_of_run schema) runs
 
 -- what some runs came to takes this run, or any that is alike
 abbrev pub TakesAlike : {T : Type 0} → (List Run → T → Type 0) → T → Run → T → Type 0

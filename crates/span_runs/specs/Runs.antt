@@ -1,6 +1,6 @@
 -- A run of files, as a table takes it.
 use Rattle.std.specs.Prelude.{ℕ, List, [], ◌∷◌, drop, length, map, option_map, Option, Some, None}
-use Rattle.span_runs.specs.{Bytes, Entry, FileEnd, Input, Settings, ends_from, journal_in_turn, unread_of, Column, Of, Run, run_of, SpanTable, table_of}
+use Rattle.span_runs.specs.{Bytes, Entry, FileEnd, Input, Settings, ends_from, journal_in_turn, unread_of, Schema, Run, run_of, SpanTable, table_of}
 
 -- the name of the only file
 abbrev pub only_name : List Input → Option Bytes
@@ -27,5 +27,5 @@ shorter cut run = record { journal = run.journal; files = run.files; unread = ru
 abbrev pub shortened : {T : Type 0} → ℕ → (List Run → T → Type 0) → List Run → T → Type 0
 shortened cut ComeTo runs value = ComeTo (map (shorter cut) runs) value
 
-abbrev pub table_of_run : Of → List Column → Run → SpanTable
-table_of_run of columns run = table_of of columns (run ∷ [])
+abbrev pub table_of_run : Schema → Run → SpanTable
+table_of_run schema run = table_of schema (run ∷ [])

@@ -11,7 +11,7 @@ use crate::source::{Name, Source, jobs_for, sizes_of};
 use crate::stop::Halt;
 use span_collect::Settings;
 use span_names::HashKeys;
-use span_table::{Column, Of};
+use span_table::Schema;
 use std::alloc::Global;
 use std::random::RandomSource;
 use std::sync::Wait;
@@ -24,27 +24,25 @@ struct FileWork<'a, S> {
     source: &'a S,
     settings: Settings,
     keys: HashKeys,
-    of: Of,
-    columns: &'a [Column],
+    schema: &'a Schema,
     // How many bytes of each name the column of files leaves out.
     cut: usize,
     stopped: &'a Stopped,
 }
 
-/// Reads these files one after another, in so many jobs at once, collects each as a run of its own, and gathers their tables, which are
-/// of the same and by these columns. The first file that stops, in the order of the names, decides.
+/// Reads these files one after another, in so many jobs at once, collects each as a run of its own, and gathers their tables, which have
+/// this schema. The first file that stops, in the order of the names, decides.
 pub fn gather_apart<T: Gathering, S: Source + Sync, R: Threads + Wait + RandomSource + Sync>(
     rt: &R,
     alloc: Global,
     source: &S,
     files: &Listed,
     settings: &Settings,
-    of: Of,
-    columns: &[Column],
+    schema: &Schema,
     jobs: u32,
 ) -> Result<Gathered<T>, Halt>
     ensures { GathersOrStops (S.bytes source.now) files.now.names.items settings.now
-        (shortened files.now.cut (T.come_to of columns.now)) result }
+        (shortened files.now.cut (T.come_to schema.now)) result }
 {
     let names = files.names.as_slice();
     let Ok(sizes) = sizes_of(alloc, source, names) else {
@@ -56,8 +54,7 @@ pub fn gather_apart<T: Gathering, S: Source + Sync, R: Threads + Wait + RandomSo
         source,
         settings: *settings,
         keys: HashKeys::random(rt),
-        of,
-        columns,
+        schema,
         cut: files.cut,
         stopped: &stopped,
     };
@@ -74,13 +71,13 @@ fn gather_in_jobs<T: Gathering, S: Source + Sync, R: Threads + Wait + RandomSour
 ) -> Result<Gathered<T>, Halt>
     requires { length sizes.now ≡ length names.now }
     ensures { GathersOrStops (S.bytes work.now.source.now) names.now
-        work.now.settings (shortened work.now.cut (T.come_to work.now.of work.now.columns.now)) result }
+        work.now.settings (shortened work.now.cut (T.come_to work.now.schema.now)) result }
 {
     let take = move |from: usize, to: usize| -> Result<Gathered<T>, Halt>
         requires { (from ≤ to) × (to ≤ length names.now) }
         ensures { GathersOrStops (S.bytes work.entry.now.source.now)
             (places from to names.entry.now) work.entry.now.settings
-            (shortened work.entry.now.cut (T.come_to work.entry.now.of work.entry.now.columns.now)) result }
+            (shortened work.entry.now.cut (T.come_to work.entry.now.schema.now)) result }
     { gather_in_job(rt, work, &names[from..to], from as u64) };
     let alloc = work.alloc;
     let join = move |first, second| -> Result<Gathered<T>, Halt>
@@ -97,10 +94,10 @@ fn gather_in_job<T: Gathering, S: Source, R: Threads + Wait + RandomSource + Syn
     place: u64,
 ) -> Result<Gathered<T>, Halt>
     ensures { GathersOrStops (S.bytes work.now.source.now) names.now work.now.settings
-        (shortened work.now.cut (T.come_to work.now.of work.now.columns.now)) result }
+        (shortened work.now.cut (T.come_to work.now.schema.now)) result }
 {
-    let (alloc, keys, of, columns) = (work.alloc, work.keys, work.of, work.columns);
-    let Ok(none) = Gathered::of_none(alloc, keys, of, columns) else {
+    let (alloc, keys, schema) = (work.alloc, work.keys, work.schema);
+    let Ok(none) = Gathered::of_none(alloc, keys, schema) else {
         return Err(Halt::Memory);
     };
     let mut gathered: Gathered<T> = none;
@@ -133,7 +130,7 @@ fn add_file<T: Gathering, S: Source, R: Threads + Wait + RandomSource + Sync>(
     gathered: Gathered<T>,
 ) -> Result<Gathered<T>, Halt>
     ensures { AddsOrStops (S.bytes work.now.source.now) name.now work.now.settings
-        (shortened work.now.cut (T.come_to work.now.of work.now.columns.now)) gathered result }
+        (shortened work.now.cut (T.come_to work.now.schema.now)) gathered result }
 {
     let collected = match collect_file(rt, work.alloc, work.source, name, &work.settings) {
         Ok(collected) => collected,
@@ -145,7 +142,7 @@ fn add_file<T: Gathering, S: Source, R: Threads + Wait + RandomSource + Sync>(
     let Ok(collected) = collected.shorter(work.alloc, work.cut) else {
         return Err(Halt::Memory);
     };
-    match gathered.with_run(work.alloc, work.keys, work.of, work.columns, &collected) {
+    match gathered.with_run(work.alloc, work.keys, work.schema, &collected) {
         Ok(more) => Ok(more),
         Err(halt) => Err(halt),
     }

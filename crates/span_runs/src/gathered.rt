@@ -1,6 +1,6 @@
 //! Files that were each a run of its own, as they are gathered.
 ghost use Rattle.std.specs.Prelude.{◌≡◌, ◌+◌, ◌≤◌, ◌^◌, ◌∷◌, ◌++◌, [], List, length, IfErr, IfOk};
-ghost use Rattle.span_runs.specs.{FileCount, number_of, run_line, Column as TheColumn, Of as TheOf, Run, TooMany, Apart.run_of, Gathering.TakesAlike, Said.{IsBehind, SaysOfRun}, Stops.{IsTooMany, OfStop}, declared.stop.Halt.TheVariants.Memory};
+ghost use Rattle.span_runs.specs.{FileCount, number_of, run_line, Schema as TheSchema, Run, TooMany, Apart.run_of, Gathering.TakesAlike, Said.{IsBehind, SaysOfRun}, Stops.{IsTooMany, OfStop}, declared.stop.Halt.TheVariants.Memory};
 
 use crate::file_run::FileRun;
 use crate::gathering::Gathering;
@@ -8,7 +8,7 @@ use crate::said::Said;
 use crate::stop::Halt;
 use span_event::Fault;
 use span_names::HashKeys;
-use span_table::{Column, Of, SumFault};
+use span_table::{Schema, SumFault};
 use std::alloc::{AllocError, Global};
 
 /// What files that were each a run of its own come to, and what is said of them.
@@ -19,19 +19,18 @@ pub struct Gathered<T> {
 }
 
 impl<T: Gathering> Gathered<T> {
-    /// No files, of which this is to be summed by these columns.
+    /// No files, whose tables are to have this schema.
     pub fn of_none(
         alloc: Global,
         keys: HashKeys,
-        of: Of,
-        columns: &[Column],
+        schema: &Schema,
     ) -> Result<Gathered<T>, AllocError>
-        ensures runs { IfOk result (λ none. T.come_to of columns.now [] none.runs) }
+        ensures runs { IfOk result (λ none. T.come_to schema.now [] none.runs) }
         ensures lines { IfOk result (λ none. none.said.lines.items ≡ []) }
         ensures warnings { IfOk result (λ none. none.said.warnings.items ≡ []) }
     {
         Ok(Gathered {
-            runs: T::of_none(alloc, keys, of, columns)?,
+            runs: T::of_none(alloc, keys, schema)?,
             said: Said::nothing(alloc),
         })
     }
@@ -41,22 +40,21 @@ impl<T: Gathering> Gathered<T> {
         self,
         alloc: Global,
         keys: HashKeys,
-        of: Of,
-        columns: &[Column],
+        schema: &Schema,
         run: &FileRun,
     ) -> Result<Gathered<T>, Halt>
         requires { length run.now.collected.end.ends.items ≡ 1 }
         ensures runs { IfOk result (λ more.
-            TakesAlike (T.come_to of columns.now) self.runs (run_of run.now) more.runs) }
+            TakesAlike (T.come_to schema.now) self.runs (run_of run.now) more.runs) }
         ensures said { IfOk result (λ more. SaysOfRun run.now self.said more.said) }
         ensures stop { IfErr result (OfStop
-            (IsTooMany (T.come_to of columns.now) self.runs 1 self.said.lines.items)) }
+            (IsTooMany (T.come_to schema.now) self.runs 1 self.said.lines.items)) }
     {
         let Gathered { runs, said } = self;
         let Ok(more) = Said::of_run(alloc, run) else {
             return Err(Halt::Memory);
         };
-        match runs.with_run(alloc, keys, of, columns, run) {
+        match runs.with_run(alloc, keys, schema, run) {
             Ok(runs) => with_said(runs, said, more),
             Err(fault) => Err(halt_of_sum(alloc, fault, said.lines)),
         }
@@ -65,14 +63,14 @@ impl<T: Gathering> Gathered<T> {
     // With the files after them.
     pub(crate) fn joined(self, alloc: Global, other: Gathered<T>) -> Result<Gathered<T>, Halt>
         ensures runs { IfOk result (λ both.
-            (of : TheOf) (columns : List TheColumn) (runs others : List Run)
-            → T.come_to of columns runs self.runs → T.come_to of columns others other.runs
-            → T.come_to of columns (runs ++ others) both.runs) }
+            (schema : TheSchema) (runs others : List Run)
+            → T.come_to schema runs self.runs → T.come_to schema others other.runs
+            → T.come_to schema (runs ++ others) both.runs) }
         ensures said { IfOk result (λ both. IsBehind self.said other.said both.said) }
         ensures stop { IfErr result (OfStop (λ lines.
             (lines ≡ self.said.lines.items ++ run_line (number_of FileCount))
-            × ((of : TheOf) (columns : List TheColumn) (runs others : List Run)
-            → T.come_to of columns runs self.runs → T.come_to of columns others other.runs
+            × ((schema : TheSchema) (runs others : List Run)
+            → T.come_to schema runs self.runs → T.come_to schema others other.runs
             → 2 ^ 32 ≤ length runs + length others))) }
     {
         let Gathered { runs, said } = self;

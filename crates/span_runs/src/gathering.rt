@@ -1,38 +1,32 @@
 //! What the runs of files come to, as they are collected one by one: one table of all, or a table of each.
 ghost use Rattle.std.specs.Prelude.{◌≡◌, ◌+◌, ◌≤◌, ◌^◌, ◌++◌, [], List, length, IfErr, IfOk};
-ghost use Rattle.span_runs.specs.{Column as TheColumn, Of as TheOf, Run, TooMany, Apart.run_of, Gathering.TakesAlike};
+ghost use Rattle.span_runs.specs.{Schema as TheSchema, Run, TooMany, Apart.run_of, Gathering.TakesAlike};
 
 use crate::file_run::FileRun;
 use span_names::HashKeys;
-use span_table::{Column, Of, SumFault, Table, TableSum};
+use span_table::{Schema, SumFault, Table, TableSum};
 use std::alloc::{AllocError, Global};
 
 /// What the runs of files come to. A fault loses what was handed over.
 pub trait Gathering: Sized + Drop + Send {
-    ghost come_to: { TheOf → List TheColumn → List Run → Self → Type 0 };
+    ghost come_to: { TheSchema → List Run → Self → Type 0 };
 
-    /// What no runs come to, of which this is to be summed by these columns. Maps that files fill are hashed by these keys.
-    fn of_none(
-        alloc: Global,
-        keys: HashKeys,
-        of: Of,
-        columns: &[Column],
-    ) -> Result<Self, AllocError>
-        ensures { IfOk result (come_to of columns.now []) };
+    /// What no runs come to, whose tables are to have this schema. Maps that files fill are hashed by these keys.
+    fn of_none(alloc: Global, keys: HashKeys, schema: &Schema) -> Result<Self, AllocError>
+        ensures { IfOk result (come_to schema.now []) };
 
     /// With one run more, or any that is alike.
     fn with_run(
         self,
         alloc: Global,
         keys: HashKeys,
-        of: Of,
-        columns: &[Column],
+        schema: &Schema,
         run: &FileRun,
     ) -> Result<Self, SumFault>
         ensures runs { IfOk result (λ more.
-            TakesAlike (come_to of columns.now) self (run_of run.now) more) }
+            TakesAlike (come_to schema.now) self (run_of run.now) more) }
         ensures too_many { IfErr result (λ fault. fault ≡ TooMany → (runs : List Run)
-            → come_to of columns.now runs self → 2 ^ 32 ≤ length runs + 1) };
+            → come_to schema.now runs self → 2 ^ 32 ≤ length runs + 1) };
 
     /// The same, made ready to be joined with another.
     fn in_order(self) -> Result<Self, AllocError>
@@ -44,12 +38,12 @@ pub trait Gathering: Sized + Drop + Send {
     /// With the runs of another, which come after these.
     fn joined(self, other: Self) -> Result<Self, SumFault>
         ensures runs { IfOk result (λ both.
-            (of : TheOf) (columns : List TheColumn) (runs others : List Run)
-            → come_to of columns runs self → come_to of columns others other
-            → come_to of columns (runs ++ others) both) }
+            (schema : TheSchema) (runs others : List Run)
+            → come_to schema runs self → come_to schema others other
+            → come_to schema (runs ++ others) both) }
         ensures too_many { IfErr result (λ fault. fault ≡ TooMany
-            → (of : TheOf) (columns : List TheColumn) (runs others : List Run)
-            → come_to of columns runs self → come_to of columns others other
+            → (schema : TheSchema) (runs others : List Run)
+            → come_to schema runs self → come_to schema others other
             → 2 ^ 32 ≤ length runs + length others) };
 }
 
@@ -59,21 +53,15 @@ impl Gathering for TableSum {
 
     ghost come_to = { IsSumOf };
 
-    fn of_none(
-        alloc: Global,
-        keys: HashKeys,
-        of: Of,
-        columns: &[Column],
-    ) -> Result<TableSum, AllocError> {
-        TableSum::new(alloc, keys, of, columns)
+    fn of_none(alloc: Global, keys: HashKeys, schema: &Schema) -> Result<TableSum, AllocError> {
+        Ok(TableSum::new(alloc, keys, schema.try_clone(alloc)?))
     }
 
     fn with_run(
         self,
         _alloc: Global,
         _keys: HashKeys,
-        _of: Of,
-        _columns: &[Column],
+        _schema: &Schema,
         run: &FileRun,
     ) -> Result<TableSum, SumFault> {
         let collected = &run.collected;
@@ -98,14 +86,9 @@ impl Gathering for TableSum {
 impl Gathering for Vec<Table> {
     ghost use Rattle.span_runs.specs.Gathering.{AreTablesOf};
 
-    ghost come_to = { λ of columns runs tables. AreTablesOf of columns runs tables.items };
+    ghost come_to = { λ schema runs tables. AreTablesOf schema runs tables.items };
 
-    fn of_none(
-        alloc: Global,
-        _keys: HashKeys,
-        _of: Of,
-        _columns: &[Column],
-    ) -> Result<Vec<Table>, AllocError> {
+    fn of_none(alloc: Global, _keys: HashKeys, _schema: &Schema) -> Result<Vec<Table>, AllocError> {
         Ok(Vec::new(alloc))
     }
 
@@ -113,16 +96,17 @@ impl Gathering for Vec<Table> {
         self,
         alloc: Global,
         keys: HashKeys,
-        of: Of,
-        columns: &[Column],
+        schema: &Schema,
         run: &FileRun,
     ) -> Result<Vec<Table>, SumFault> {
         let collected = &run.collected;
+        let Ok(schema) = schema.try_clone(alloc) else {
+            return Err(SumFault::Memory);
+        };
         let Ok(table) = Table::of(
             alloc,
             keys,
-            of,
-            columns,
+            schema,
             &collected.ledger,
             1,
             collected.end.unread(),

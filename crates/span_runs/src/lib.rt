@@ -32,5 +32,5 @@ pub use span_collect::{Collected, Input, Settings};
 pub use span_event::Text;
 pub use span_faults::Reason;
 pub use span_names::HashKeys;
-pub use span_table::{Column, Of, SumFault, Table};
+pub use span_table::{Schema, SumFault, Table};
 pub use stop::{Halt, Stop};

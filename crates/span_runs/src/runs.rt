@@ -5,27 +5,25 @@ ghost use Rattle.span_runs.specs.Runs.{only_name, run_of_files, table_of_run};
 use span_collect::{Collected, Input};
 use span_event::Text;
 use span_names::HashKeys;
-use span_table::{Column, Of, Table};
+use span_table::{Schema, Table};
 use std::alloc::{AllocError, Global};
 use std::random::RandomSource;
 
-/// The table, by these columns, of what was collected of these files as one run and is to be summed.
+/// The table with this schema of what was collected of these files as one run.
 pub fn table_of_run<R: RandomSource>(
     rt: &R,
     alloc: Global,
-    of: Of,
-    columns: &[Column],
+    schema: &Schema,
     files: &[Input],
     collected: &Collected,
 ) -> Result<Table, AllocError>
-    ensures { IfOk result (λ table. table ≡ table_of_run of columns.now
+    ensures { IfOk result (λ table. table ≡ table_of_run schema.now
         (run_of_files files.now collected.now.end.ends.items collected.now.ledger.journal)) }
 {
     Table::of(
         alloc,
         HashKeys::random(rt),
-        of,
-        columns,
+        schema.try_clone(alloc)?,
         &collected.ledger,
         files.len() as u64,
         collected.end.unread(),

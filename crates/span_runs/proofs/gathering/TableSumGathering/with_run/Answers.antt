@@ -7,14 +7,14 @@ use Rattle.span_runs.proofs.gathering.TableSumGathering.with_run.Goals as goal
 pub returns-clause-runs : goal.returns-clause-runs
 returns-clause-runs c =
     let run = run_of c.args.run.now in
-    IfOk-weaker c.add_run.result (TakesRuns c.args.self (run ∷ [])) (TakesAlike (IsSumOf c.args._of c.args._columns.now) c.args.self run)
-    (λ more takes runs other alike is. IsSumOf-last c.args._of c.args._columns.now runs run other more alike (takes c.args._of c.args._columns.now runs is))
+    IfOk-weaker c.add_run.result (TakesRuns c.args.self (run ∷ [])) (TakesAlike (IsSumOf c.args._schema.now) c.args.self run)
+    (λ more takes runs other alike is. IsSumOf-last c.args._schema.now runs run other more alike (takes c.args._schema.now runs is))
     (rw c.unread.ensures at c.add_run.ensures.runs)
 
 -- the sum counts the runs before
 pub returns-clause-too_many : goal.returns-clause-too_many
 returns-clause-too_many c =
     IfErr-weaker c.add_run.result (λ (fault : SumFault). fault ≡ TooMany → 2 ^ 32 ≤ c.args.self.parts + 1)
-    (λ (fault : SumFault). fault ≡ TooMany → (runs : List Run) → IsSumOf c.args._of c.args._columns.now runs c.args.self → 2 ^ 32 ≤ length runs + 1)
+    (λ (fault : SumFault). fault ≡ TooMany → (runs : List Run) → IsSumOf c.args._schema.now runs c.args.self → 2 ^ 32 ≤ length runs + 1)
     (λ fault few many runs is. omega (arith, few many, is.parts))
     c.add_run.ensures.too_many
