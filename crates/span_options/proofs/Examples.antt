@@ -104,6 +104,25 @@ by-faultless = refl
 by-text : first_of (codes "by") (matches_of command by) ≡ Some (codes "total")
 by-text = read (first_of (codes "by")) by by_end by-ends
 
+-- ---- a list of numbers, whose commas are its own
+
+abbrev numbers : List Text
+numbers = codes "--numbers" ∷ codes "self,longest" ∷ codes "a.json" ∷ []
+
+abbrev numbers_end : Held
+numbers_end = then_files (given (codes "numbers") AsWritten (codes "self,longest" ∷ []) ∷ []) (codes "a.json" ∷ [])
+
+numbers-ends : end_of numbers ≡ numbers_end
+unfolding clap_on_literals
+numbers-ends = refl
+
+numbers-faultless : faults numbers ≡ []
+unfolding clap_on_literals
+numbers-faultless = refl
+
+numbers-text : first_of (codes "numbers") (matches_of command numbers) ≡ Some (codes "self,longest")
+numbers-text = read (first_of (codes "numbers")) numbers numbers_end numbers-ends
+
 -- ---- an option that is given twice
 
 abbrev only : List Text
@@ -223,6 +242,11 @@ empty_only = refl
 top_twice : faults (codes "--top=5" ∷ codes "--top=6" ∷ []) ≡ ArgumentConflict ∷ []
 unfolding clap_on_literals
 top_twice = refl
+
+-- so may a list of numbers
+numbers_twice : faults (codes "--numbers=self" ∷ codes "--numbers=total" ∷ []) ≡ ArgumentConflict ∷ []
+unfolding clap_on_literals
+numbers_twice = refl
 
 -- the option takes no value
 seal_value : faults (codes "--seal=yes" ∷ []) ≡ TooManyValues ∷ []

@@ -39,7 +39,7 @@ settings = number (codes "limit") greatest ∷ switch (codes "nanoseconds") ∷ 
 
 abbrev pub tables : List Rule
 tables =
-    number (codes "top") greatest ∷ option (codes "by") ∷ option (codes "of") ∷ list (codes "base") ∷ switch (codes "json")
+    number (codes "top") greatest ∷ option (codes "by") ∷ option (codes "numbers") ∷ option (codes "of") ∷ list (codes "base") ∷ switch (codes "json")
     ∷ switch (codes "apart") ∷ switch (codes "repeats") ∷ number (codes "jobs") 64 ∷ switch (codes "add")
     ∷ option (codes "group-by") ∷ list (codes "where") ∷ switch (codes "merge-templates") ∷ texts (codes "only") ∷ texts (codes "skip") ∷ []
 

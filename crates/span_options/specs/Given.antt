@@ -35,6 +35,7 @@ pub record IsGiven (matches : Matches) (options : Options) : Type 0 where
   pub strict : options.strict ≡ is_on (codes "strict") matches
   pub top : options.top ≡ number_of (codes "top") matches
   pub by : options.by ≡ first_of (codes "by") matches
+  pub numbers : options.numbers ≡ first_of (codes "numbers") matches
   pub of : options.of ≡ first_of (codes "of") matches
   pub base : options.base.items ≡ texts_of (codes "base") matches
   pub json : options.json ≡ is_on (codes "json") matches

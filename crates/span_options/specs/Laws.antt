@@ -22,6 +22,7 @@ pub record HasOnlyFiles (files : List Text) (options : Options) : Type 0 where
   pub strict : options.strict ≡ false
   pub top : options.top ≡ None
   pub by : options.by ≡ None
+  pub numbers : options.numbers ≡ None
   pub of : options.of ≡ None
   pub base : options.base.items ≡ []
   pub json : options.json ≡ false

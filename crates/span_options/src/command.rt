@@ -6,8 +6,8 @@ ghost use Rattle.span_options.specs.Command.{command, list, number, option, othe
 use crate::help::{
     ABOUT, ADD_HELP, AFTER, APART_HELP, BASE_HELP, BY_HELP, FILE_HELP, FILES_FROM_HELP,
     FOLDED_HELP, GROUP_BY_HELP, JOBS_HELP, JSON_HELP, MERGE_TEMPLATES_HELP, NANOSECONDS_HELP,
-    OF_HELP, ONLY_HELP, PAGE_HELP, REFUSED_HELP, REPEATS_HELP, SEAL_HELP, SKIP_HELP, STRICT_HELP,
-    TOP_HELP, WHERE_HELP,
+    NUMBERS_HELP, OF_HELP, ONLY_HELP, PAGE_HELP, REFUSED_HELP, REPEATS_HELP, SEAL_HELP, SKIP_HELP,
+    STRICT_HELP, TOP_HELP, WHERE_HELP,
 };
 use clap::builder::ValueParser;
 use clap::{Arg, ArgAction, Command};
@@ -47,6 +47,7 @@ fn tables(alloc: Global) -> Result<Vec<Arg<'static>>, AllocError>
     Ok(vec![in alloc;
         number(alloc, "top", u32::MAX, TOP_HELP),
         option(alloc, "by", "SUM", BY_HELP),
+        option(alloc, "numbers", "LIST", NUMBERS_HELP),
         option(alloc, "of", "spans|async", OF_HELP),
         list(alloc, "base", "FILE", BASE_HELP),
         switch(alloc, "json", JSON_HELP),

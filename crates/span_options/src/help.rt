@@ -21,8 +21,19 @@ option asks for a table and none for a text, it is --top 20"#;
 
 pub(crate) const BY_HELP: &str =
     r#"The number that --top goes by, or whose change --base goes by: self,
-total or count of spans; total, closed, open or points of async spans
-[default: self; of async spans total]"#;
+total, count, longest or outer of spans; total, closed, open, points
+or longest of async spans
+[default: the first of --numbers, else self; of async spans total]"#;
+
+pub(crate) const NUMBERS_HELP: &str =
+    r#"Which numbers are shown, parted by commas: self, total, count,
+longest, outer; with --of async total, closed, open, points, longest.
+longest is the length of the longest span; outer is total without
+spans that lie within one of their name. With --add keep just these
+numbers of the tables; with --top, --json, --base and --page
+[default: self, total, count; with --of async total, closed, open,
+points; with --json or --page count, total, self, and closed, total,
+open, points; with --add those of the tables]"#;
 
 pub(crate) const OF_HELP: &str =
     r#"What a table sums: the spans of threads, or async spans, whose columns
