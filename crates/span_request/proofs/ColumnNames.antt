@@ -5,7 +5,7 @@ use Rattle.std.proofs.Math.Seq.{take-suc}
 use Rattle.std.proofs.lemmas.Bool.{and_parts}
 use Rattle.std.proofs.lemmas.List.{map-append}
 use Rattle.std.proofs.lemmas.List.Elements.{All-head, All-tail, All-nil, All-cons, All-append, filter_map-append}
-use Rattle.span_request.specs.{Argument, Bytes, Cat, Column, File, Name, Pid, Process, SpanColumn, Thread, Tid, column_name, is_column, Columns.{AreEach, IsNamed, NamesNone, has_comma, is_comma}, Tasks.label_of}
+use Rattle.span_request.specs.{Argument, Bytes, Cat, Column, File, Name, Pid, Process, SpanColumn, Thread, Tid, column_name, is_column, Columns.{AreEach, IsNamed, NamesNone, has_comma}, Lists.is_comma, Tasks.label_of}
 use Rattle.span_table.specs.declared.column.Column.TheVariants.{Id, ParentArgument, ParentName, Scope}
 
 -- what has the name of a column, with a key and without a comma, is one

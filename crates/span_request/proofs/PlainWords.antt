@@ -32,24 +32,25 @@ once_standard words options plain only = rw (only.names, only.base, only.files_f
 
 -- a table of spans by the usual columns
 abbrev usual : Asked
-usual = record { of = Spans; columns = alike; conditions = [] }
+usual = record { of = Spans; columns = alike; numbers = []; conditions = [] }
 
 -- options that only name files break no rule
 sound : (words : List Bytes) (options : Options) → list_all is_plain words ≡ true → HasOnlyFiles words options → AreSound options usual
 sound words options plain only = record {
   apart = rw (once_standard words options plain only, only.top, only.refused, only.folded, only.page, only.base, only.json, only.repeats, only.add) refl;
-  busy = rw (only.by, only.of, only.group_by, only.conditions, only.merge_templates, only.only, only.skip, only.add, only.apart, only.repeats, only.jobs) refl;
+  busy = rw (only.by, only.numbers, only.of, only.group_by, only.conditions, only.merge_templates, only.only, only.skip, only.add, only.apart, only.repeats, only.jobs) refl;
   summed = record {
     of = rw (only.of) refl;
-    columns = rw (only.by, only.of, only.group_by, only.conditions, only.merge_templates, only.only, only.skip, only.apart, only.add, only.base, only.top, only.folded, only.page) refl;
+    columns = rw (only.by, only.numbers, only.of, only.group_by, only.conditions, only.merge_templates, only.only, only.skip, only.apart, only.add, only.base, only.top, only.folded, only.page) refl;
+    numbers = rw (only.numbers) refl;
     conditions = rw (only.conditions) tt;
   };
-  suited = rw (only.by, only.add, only.folded, only.json) refl;
+  suited = rw (only.by, only.numbers, only.add, only.folded, only.json) refl;
   tested = rw (only.add) refl;
 }
 
 no_table : (words : List Bytes) (options : Options) → HasOnlyFiles words options → prints_table options ≡ false
-no_table words options only = rw (only.by, only.of, only.group_by, only.conditions, only.merge_templates, only.only, only.skip, only.apart, only.add, only.top, only.json, only.base) refl
+no_table words options only = rw (only.by, only.numbers, only.of, only.group_by, only.conditions, only.merge_templates, only.only, only.skip, only.apart, only.add, only.top, only.json, only.base) refl
 
 default : (words : List Bytes) (options : Options) → HasOnlyFiles words options → settings_of options ≡ default_settings
 default words options only = rw (only.nanoseconds, only.limit, only.seal, only.strict) refl

@@ -7,11 +7,11 @@ use Rattle.std.proofs.lemmas.List.Splits.{length-slice_split}
 use Rattle.std.proofs.lemmas.List.Sums.{AllPass-from_list_all, list_all-from_AllPass}
 use Rattle.std.proofs.lemmas.List.Elements.{All-cons, All-nil}
 use Rattle.std.proofs.lemmas.Slice.Eq.{bytes_eq-Decides}
-use Rattle.span_request.specs.{AreColumns, AreDistinct, Async, Bytes, Column, Condition, Name, Of, Options, Spans, column_name, goes_with, is_column, Asked.Asked, Columns.{AreGiven, AreNamed, alike, has_twice, is_comma, names_in, paged, ranked, usual_columns}, Laws.{AddedTablesMayHaveThem, ConditionsMayTestThem, TablesMayHaveThem}, Rules.{is_broken, unsuited}, Texts.{are_given, most_rows}}
+use Rattle.span_request.specs.{AreColumns, AreDistinct, Async, Bytes, Column, Condition, Name, Of, Options, Spans, column_name, goes_with, is_column, Asked.Asked, Columns.{AreGiven, AreNamed, alike, paged, ranked, usual_columns}, Laws.{AddedTablesMayHaveThem, ConditionsMayTestThem, TablesMayHaveThem}, Lists.{has_twice, is_comma, names_in}, Rules.{is_broken, unsuited}, Texts.{are_given, most_rows}}
 use Rattle.std.proofs.lemmas.Bool.{or_parts}
 
 -- a name that is none of the others differs from each
-differs : (name : Bytes) (names : List Bytes) → list_any (λ other. bytes_eq other name) names ≡ false → All (λ other. name ≢ other) names
+pub differs : (name : Bytes) (names : List Bytes) → list_any (λ other. bytes_eq other name) names ≡ false → All (λ other. name ≢ other) names
 differs name [] none = All-nil (λ other. name ≢ other)
 differs name (other ∷ names) none =
     let both = or_parts (bytes_eq other name) _ none in
@@ -19,7 +19,7 @@ differs name (other ∷ names) none =
     (λ same. true≢false (sym ((bytes_eq-Decides name name).1 refl) ∙ ap (λ another. bytes_eq another name) same ∙ both.0)) (differs name names both.1)
 
 -- names of which none comes twice are distinct
-AreDistinct-once : (names : List Bytes) → has_twice names ≡ false → AreDistinct names
+pub AreDistinct-once : (names : List Bytes) → has_twice names ≡ false → AreDistinct names
 AreDistinct-once [] once = tt
 AreDistinct-once (name ∷ names) once =
     let both = or_parts (list_any (λ other. bytes_eq other name) names) _ once in
@@ -61,7 +61,7 @@ may_have of options None columns are own = subst MayHave (sym are) (usual of opt
 may_have of options (Some names) columns are own = named names columns are
 
 -- a rule that is kept where tables aren't added
-kept : (options : Options) → options.add ≡ false → (all : Bool) → (not options.add && not all) ≡ false → all ≡ true
+pub kept : (options : Options) → options.add ≡ false → (all : Bool) → (not options.add && not all) ≡ false → all ≡ true
 kept options own true e = refl
 kept options own false e = absurd (true≢false (sym (ap (λ add. not add && true) own) ∙ e))
 

@@ -1,21 +1,9 @@
 -- The columns that a command line names, and those of a text where it names none.
-use Rattle.std.specs.{Global.Global, List.{list_any, slice_split}, Prelude.{◌≡◌, ◌≤◌, ◌==◌, ◌||◌, if◌then◌else◌, ℕ, Bool, true, false, List, [], ◌∷◌, All, is_some, length, map, Option, Some, None, Vec}, Str.bytes_eq}
-use Rattle.span_request.specs.{Async, Bytes, Cat, Column, File, Name, Of, Options, Pid, Process, Spans, Thread, Tid, column_name, is_argument, is_column, Texts.{are_given, most_rows}}
-
-abbrev pub is_comma : ℕ → Bool
-is_comma byte = byte == 44
+use Rattle.std.specs.{List.list_any, Prelude.{◌≡◌, ◌≤◌, if◌then◌else◌, Bool, true, false, List, [], ◌∷◌, All, is_some, length, map, Option, Some, None}}
+use Rattle.span_request.specs.{Async, Bytes, Cat, Column, File, Name, Of, Options, Pid, Process, Spans, Thread, Tid, column_name, is_argument, is_column, Lists.{has_twice, is_comma, names_in}, Texts.{are_given, most_rows}}
 
 abbrev pub has_comma : Bytes → Bool
 has_comma text = list_any is_comma text
-
--- what stands between commas
-abbrev pub names_in : Bytes → List Bytes
-names_in text = slice_split is_comma text
-
--- a name comes twice
-abbrev pub has_twice : List Bytes → Bool
-has_twice [] = false
-has_twice (name ∷ names) = list_any (λ other. bytes_eq other name) names || has_twice names
 
 -- the name is that of this column, or of none
 abbrev pub IsNamed : Bytes → Column → Type 0
@@ -33,11 +21,6 @@ pub record AreNamed (names : List Bytes) (columns : List Column) : Type 0 where
   pub each : AreEach names columns
   pub few : length names ≤ 8
   pub once : has_twice names ≡ false
-
--- these columns, or none where there are none such
-abbrev pub Finds : (List Column → Type 0) → Option (Vec Column Global) → Type 0
-Finds Are (Some columns) = Are columns.items
-Finds Are None = (columns : List Column) → Are columns → ⊥
 
 -- those of a ranking: a row is a thread's name
 abbrev pub ranked : List Column

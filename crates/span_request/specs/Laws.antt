@@ -1,7 +1,7 @@
 -- What holds of all that options and words ask for.
 use Rattle.std.specs.{List.list_all, Prelude.{◌≡◌, ◌⊎◌, ◌<◌, ◌^◌, false, true, All, List, [], None, length}}
-use Rattle.span_request.specs.{AreColumns, Bytes, Condition, Microseconds, Of, Options, Settings, goes_with, is_plain, Asked.Asked, Request.{AreSound, AsksFor}, Tasks.default_limit}
-use Rattle.span_request.specs.declared.{tasks.{Request.{Request, TheVariants.Run}, Task.TheVariants.Collect}, views.View.TheVariants.Report}
+use Rattle.span_request.specs.{AreColumns, AreNumbers, Bytes, Condition, Microseconds, Number, Of, Options, Programs, Settings, goes_with, is_plain, shown_numbers, usual_numbers, Asked.Asked, Numbers.numbers_go_with, Request.{AreSound, AsksFor}, Tasks.{IsOptions, default_limit}}
+use Rattle.span_request.specs.declared.{tasks.{Request.{Request, TheVariants.Run}, Task.TheVariants.Collect}, views.{TableOptions.TableOptions, View.TheVariants.Report}}
 
 -- the columns by which a table is made of traces are those that a table may have
 abbrev pub TablesMayHaveThem : Type 0
@@ -15,6 +15,16 @@ AddedTablesMayHaveThem = (options : Options) (own : Of) (asked : Asked) → AreS
 -- what is summed has the columns of conditions too
 abbrev pub ConditionsMayTestThem : Type 0
 ConditionsMayTestThem = (options : Options) (asked : Asked) → AreSound options asked → options.add ≡ false → All (λ (c : Condition). goes_with asked.of c.column ≡ true) asked.conditions
+
+-- the numbers that a text shows of a table that is made of traces are those that a table may have
+abbrev pub TablesMayShowThem : Type 0
+TablesMayShowThem = (options : Options) (asked : Asked) (table : TableOptions) → AreSound options asked → options.add ≡ false → IsOptions options asked table
+    → AreNumbers asked.of (shown_numbers table.numbers asked.of (usual_numbers Programs asked.of))
+
+-- so are those that it shows of tables that are added, if these have them
+abbrev pub AddedTablesMayShowThem : Type 0
+AddedTablesMayShowThem = (options : Options) (asked : Asked) (table : TableOptions) (of : Of) (own : List Number) → AreSound options asked → IsOptions options asked table
+    → AreNumbers of own → numbers_go_with table.numbers of own ≡ true → AreNumbers of (shown_numbers table.numbers of own)
 
 -- the settings where the command line doesn't say
 abbrev pub default_settings : Settings

@@ -1,6 +1,6 @@
 -- Which options go together, and which columns and numbers go with them: a rule a line. Each says what must not hold.
 use Rattle.std.specs.{List.{list_all, list_any}, Option.option_map_or, Prelude.{ℕ, ◌+◌, ◌==◌, ◌&&◌, ◌||◌, if◌then◌else◌, not, nat_lt, Bool, false, List, [], ◌∷◌, filter, is_some, length}}
-use Rattle.span_request.specs.{Condition, Options, goes_with, is_standard, Asked.Asked, Columns.{is_file, is_of_span}, Numbers.{by_of, goes_by}, Texts.{are_given, has_table, is_any, most_rows, prints_table, texts}}
+use Rattle.span_request.specs.{Condition, Options, all_of, goes_with, is_standard, Asked.Asked, Columns.{is_file, is_of_span}, Numbers.{are_numbers_of, are_of_one_kind, by_of, goes_by}, Texts.{are_given, has_table, is_any, most_rows, prints_table, texts}}
 
 -- one of the rules holds
 abbrev pub is_broken : List Bool → Bool
@@ -34,6 +34,7 @@ excluded options =
     ∷ (options.json && options.folded)
     ∷ (options.json && options.page)
     ∷ (options.repeats && options.apart)
+    ∷ (options.repeats && is_some options.numbers)
     ∷ (options.add && is_some options.limit)
     ∷ (options.add && options.nanoseconds)
     ∷ (options.add && options.seal)
@@ -47,6 +48,7 @@ excluded options =
 abbrev pub idle : Options → List Bool
 idle options =
     (is_some options.by && not (is_some (most_rows options) || are_given options.base.items))
+    ∷ (is_some options.numbers && not (has_table options))
     ∷ (is_some options.of && not (prints_table options))
     ∷ (is_some options.group_by && not (has_table options || options.folded))
     ∷ (are_given options.conditions.items && not (prints_table options))
@@ -66,7 +68,10 @@ unsuited options asked =
     ∷ (not options.add && not (list_all (goes_with asked.of) asked.columns))
     ∷ (list_any is_file asked.columns && not (takes_apart options || options.add))
     ∷ (options.folded && not (list_all is_of_span asked.columns))
-    ∷ (not options.add && not (goes_by asked.of (by_of options)))
+    ∷ (not options.add && not (goes_by (all_of asked.of) (by_of options)))
+    ∷ (not options.add && not (are_numbers_of asked.of asked.numbers))
+    ∷ (options.add && not (are_of_one_kind asked.numbers))
+    ∷ (is_some options.numbers && not (goes_by asked.numbers (by_of options)))
     ∷ (options.json && is_some options.by && not options.repeats)
     ∷ []
 

@@ -1,6 +1,6 @@
 -- The task that the options ask for, of such a table.
 use Rattle.std.specs.{Prelude.{◌≡◌, ◌&&◌, ◌||◌, if◌then◌else◌, ℕ, Bool, true, false, List, [], ◌∷◌, Option, Some, None, filter_map, is_some, map, unwrap_or}, Option.option_map_or}
-use Rattle.span_request.specs.{Argument, Column, Microseconds, Name, Named, Nanoseconds, Narrowing, Options, Settings, SpanColumn, names_of, Asked.Asked, Numbers.by_of, Rules.takes_apart, Texts.{are_given, most_rows, prints_table}}
+use Rattle.span_request.specs.{Argument, Column, Microseconds, Name, Named, Nanoseconds, Narrowing, Options, Settings, SpanColumn, AskedNumbers, names_of, Asked.Asked, Numbers.by_of, Rules.takes_apart, Texts.{are_given, audience_of, most_rows, prints_table}}
 use Rattle.span_request.specs.declared.tasks.{Items.{Items, TheVariants.{Apart, Printed, Together}}, TableText.{TableText, TheVariants.{Changes, Repetitions, Table}}, Task.{Task, TheVariants.{Collect, Pages, Tabulate}}}
 use Rattle.span_request.specs.declared.views.{ComparisonForm.ComparisonForm, PageView.PageView, RepeatsForm.RepeatsForm, TableForm.{TableForm, TheVariants.{Json, Ranking}}, TableOptions.TableOptions, View.{View, TheVariants.{Folded, Page, Refusals, Report}}}
 use Rattle.span_report.specs.declared.stacks.label.SpanColumn.TheVariants as label
@@ -24,10 +24,17 @@ pub record IsNarrowing (options : Options) (asked : Asked) (narrowing : Narrowin
   pub conditions : narrowing.conditions.items ≡ asked.conditions
   pub merges : narrowing.merges ≡ options.merge_templates
 
--- what is summed, by which columns, how it is narrowed, and which rows are shown
+-- whom a text is for, the numbers that it shows, where they are named, and by which of them its rows go
+pub record AreAskedNumbers (options : Options) (asked : Asked) (numbers : AskedNumbers) : Type 0 where
+  pub audience : numbers.audience ≡ audience_of options
+  pub named : numbers.named.items ≡ asked.numbers
+  pub by : numbers.by ≡ by_of options
+
+-- what is summed, by which columns, which numbers are shown, how it is narrowed, and which rows are shown
 pub record IsOptions (options : Options) (asked : Asked) (table : TableOptions) : Type 0 where
   pub of : table.of ≡ asked.of
   pub columns : table.columns.items ≡ asked.columns
+  pub numbers : AreAskedNumbers options asked table.numbers
   pub narrowing : IsNarrowing options asked table.narrowing
   pub shown : table.shown ≡ record { only = options.only.items; skip = options.skip.items }
 
@@ -74,10 +81,10 @@ abbrev pub items_of : Options → Items
 items_of options = if options.add then Printed else if takes_apart options then Apart (settings_of options) else Together (settings_of options)
 
 abbrev pub table_form : Options → TableForm
-table_form options = option_map_or (λ most. Ranking most (by_of options)) (most_rows options) Json
+table_form options = option_map_or Ranking (most_rows options) Json
 
 abbrev pub comparison_form : Options → ComparisonForm
-comparison_form options = if options.json then changes.Json else changes.Text options.top (by_of options)
+comparison_form options = if options.json then changes.Json else changes.Text options.top
 
 abbrev pub repeats_form : Options → RepeatsForm
 repeats_form options = if options.json then repeats.Json else repeats.Text options.top
@@ -88,8 +95,7 @@ IsText options (Table form) = (are_given options.base.items ≡ false) × (form 
 IsText options (Changes since) =
     (are_given options.base.items ≡ true) × (options.repeats ≡ false) × (since.form ≡ comparison_form options) × (since.base.items ≡ names_of options.base.items)
 IsText options (Repetitions of) =
-    (are_given options.base.items ≡ true) × (options.repeats ≡ true) × (of.by ≡ by_of options) × (of.form ≡ repeats_form options)
-    × (of.base.items ≡ names_of options.base.items)
+    (are_given options.base.items ≡ true) × (options.repeats ≡ true) × (of.form ≡ repeats_form options) × (of.base.items ≡ names_of options.base.items)
 
 abbrev pub IsTask : Options → Asked → Task → Type 0
 IsTask options asked (Collect settings view) =

@@ -1,6 +1,6 @@
 -- Which text the options ask for.
 use Rattle.std.specs.{List.list_any, Prelude.{◌&&◌, ◌||◌, if◌then◌else◌, not, nat_lt, ℕ, Bool, List, [], ◌∷◌, is_some, length, Option, Some}}
-use Rattle.span_request.specs.{Bytes, Options}
+use Rattle.span_request.specs.{Audience, Bytes, Options, People, Programs}
 
 -- it is given once or more
 abbrev pub are_given : List Bytes → Bool
@@ -17,7 +17,7 @@ texts options = (is_some options.top && not (are_given options.base.items)) ∷ 
 -- the options that say how a table is made
 abbrev pub shapes : Options → List Bool
 shapes options =
-    is_some options.by ∷ is_some options.of ∷ is_some options.group_by ∷ are_given options.conditions.items ∷ options.merge_templates
+    is_some options.by ∷ is_some options.numbers ∷ is_some options.of ∷ is_some options.group_by ∷ are_given options.conditions.items ∷ options.merge_templates
     ∷ are_given options.only.items ∷ are_given options.skip.items ∷ options.apart ∷ options.add ∷ []
 
 -- a table is wanted, and no text is named
@@ -35,3 +35,7 @@ prints_table options = is_some (most_rows options) || options.json || are_given 
 -- a table is printed, or shown on a page
 abbrev pub has_table : Options → Bool
 has_table options = prints_table options || options.page
+
+-- whom its table is for: a page shows that for other programs
+abbrev pub audience_of : Options → Audience
+audience_of options = if options.json || options.page then Programs else People

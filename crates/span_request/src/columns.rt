@@ -1,7 +1,8 @@
 //! The columns of a table, as the command line names them.
-ghost use Rattle.std.specs.{List.{list_all, list_any}, Prelude.{◌≡◌, IfOk, MatchOption, map}, Str.bytes_eq};
-ghost use Rattle.span_request.specs.{goes_with, Columns.{alike, AreAsked, AreEach, AreNamed, Finds, IsNamed, NamesNone, has_comma, has_twice, is_file, is_of_span, names_in, usual_columns}, Tasks.{asked_labels, label_of, labels_of, merged_label}};
+ghost use Rattle.std.specs.{List.{list_all, list_any}, Prelude.{◌≡◌, IfOk, MatchOption, map}};
+ghost use Rattle.span_request.specs.{goes_with, Columns.{alike, AreAsked, AreEach, AreNamed, IsNamed, NamesNone, has_comma, is_file, is_of_span, usual_columns}, Lists.{Finds, names_in}, Tasks.{asked_labels, label_of, labels_of, merged_label}};
 
+use crate::lists::{has_twice, names_in};
 use crate::texts::most_rows;
 use span_options::Options;
 use span_report::stacks::SpanColumn;
@@ -113,31 +114,6 @@ fn columns_of(alloc: Global, text: &str) -> Result<Option<Vec<Column>>, AllocErr
         return Ok(None);
     }
     columns_named(alloc, &names)
-}
-
-// What stands between commas.
-fn names_in(alloc: Global, text: &str) -> Result<Vec<&str>, AllocError>
-    ensures { IfOk result (λ names. map (λ name. name.now) names.items ≡ names_in text.now) }
-{
-    text.split(',').collect(alloc)
-}
-
-fn has_twice(names: &[&str]) -> bool
-    ensures { result ≡ has_twice (map (λ name. name.now) names.now) }
-{
-    match names {
-        [] => false,
-        [name, more @ ..] => is_among(name, more) | has_twice(more),
-    }
-}
-
-fn is_among(name: &str, names: &[&str]) -> bool
-    ensures { result ≡ list_any (λ other. bytes_eq other name.now) (map (λ other. other.now) names.now) }
-{
-    match names {
-        [] => false,
-        [other, more @ ..] => (*other == name) | is_among(name, more),
-    }
 }
 
 // Each of these is a column.

@@ -4,6 +4,7 @@
 mod columns;
 mod conditions;
 pub mod laws;
+mod lists;
 mod numbers;
 mod request;
 mod rules;
@@ -12,10 +13,11 @@ mod tasks;
 mod texts;
 mod views;
 
-pub use numbers::goes_by;
+pub use numbers::numbers_go_with;
 pub use request::{DEFAULT_SETTINGS, request_of};
 pub use span_event::Text;
 pub use span_narrowing::{Condition, Narrowing};
 pub use span_table::{Number, Of};
+pub use span_table_text::AskedNumbers;
 pub use tasks::{Changes, Items, Repetitions, Request, TableText, Tabulation, Task};
 pub use views::{ComparisonForm, PageView, RepeatsForm, TableForm, TableOptions, View};

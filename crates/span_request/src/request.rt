@@ -7,14 +7,14 @@ use crate::numbers::by_of;
 use crate::rules::{broken_rule, takes_apart, unsuited_rule};
 use crate::summed::{Summed, summed_by};
 use crate::tasks::{Changes, Items, Repetitions, Request, TableText, Tabulation, Task};
-use crate::texts::{most_rows, prints_table};
+use crate::texts::{audience_of, most_rows, prints_table};
 use crate::views::{ComparisonForm, PageView, RepeatsForm, TableForm, TableOptions, View};
 use span_collect::Settings;
 use span_event::{Text, Unit};
 use span_narrowing::Narrowing;
 use span_options::{DEFAULT_LIMIT, Options, Parsed, options_of, refusal};
 use span_runs::{Named, names_of_words};
-use span_table_text::Shown;
+use span_table_text::{AskedNumbers, Shown};
 use std::alloc::{AllocError, Global};
 
 /// The settings where the command line does not say.
@@ -160,6 +160,11 @@ fn table_options(
 ) -> Result<TableOptions, AllocError>
     ensures { IfOk result (IsOptions options.now summed) }
 {
+    let numbers = AskedNumbers {
+        audience: audience_of(options),
+        named: summed.numbers,
+        by: by_of(options),
+    };
     let narrowing = Narrowing {
         conditions: summed.conditions,
         merges: options.merge_templates,
@@ -171,6 +176,7 @@ fn table_options(
     Ok(TableOptions {
         of: summed.of,
         columns: summed.columns,
+        numbers,
         narrowing,
         shown,
     })
@@ -184,9 +190,8 @@ fn text_of(alloc: Global, options: &Options) -> Result<TableText, AllocError>
     }
     let base = names_of_words(alloc, copies(alloc, &options.base)?)?;
     if options.repeats {
-        let by = by_of(options);
         let form = repeats_form(options);
-        return Ok(TableText::Repetitions(Repetitions { by, form, base }));
+        return Ok(TableText::Repetitions(Repetitions { form, base }));
     }
     let form = comparison_form(options);
     Ok(TableText::Changes(Changes { form, base }))
@@ -196,10 +201,7 @@ fn table_form(options: &Options) -> TableForm
     ensures { result ≡ table_form options.now }
 {
     match most_rows(options) {
-        Some(most) => {
-            let by = by_of(options);
-            TableForm::Ranking { most, by }
-        }
+        Some(most) => TableForm::Ranking { most },
         None => TableForm::Json,
     }
 }
@@ -210,9 +212,7 @@ fn comparison_form(options: &Options) -> ComparisonForm
     if options.json {
         return ComparisonForm::Json;
     }
-    let most = options.top;
-    let by = by_of(options);
-    ComparisonForm::Text { most, by }
+    ComparisonForm::Text { most: options.top }
 }
 
 fn repeats_form(options: &Options) -> RepeatsForm

@@ -7,7 +7,7 @@ use crate::columns::{LABEL_RULE, are_of_spans, file_rule_of, go_with, have_file,
 use crate::conditions::{
     conditions_file_rule_of, conditions_go_with, conditions_have_file, conditions_others_rule_of,
 };
-use crate::numbers::{NUMBER_RULE, by_of, goes_by};
+use crate::numbers::{BY_RULE, NUMBERS_RULE, are_numbers_of, are_of_one_kind, by_of, goes_by};
 use crate::summed::Summed;
 use crate::texts::{has_table, is_any, most_rows, prints_table, texts};
 use span_event::Text;
@@ -72,6 +72,10 @@ fn excluded_rule(options: &Options) -> Option<&'static str>
         Rule(
             repeats & options.apart,
             "the argument '--repeats' cannot be used with '--apart'",
+        ),
+        Rule(
+            repeats & options.numbers.is_some(),
+            "the argument '--repeats' cannot be used with '--numbers <LIST>'",
         ),
         Rule(
             add & options.limit.is_some(),
@@ -164,6 +168,10 @@ fn idle_rule(options: &Options) -> Option<&'static str>
             "the argument '--by <SUM>' goes with '--top <N>' and '--base <FILE>' alone",
         ),
         Rule(
+            options.numbers.is_some() & !has_table(options),
+            "the argument '--numbers <LIST>' goes with '--top <N>', '--json', '--base <FILE>' and '--page' alone",
+        ),
+        Rule(
             options.of.is_some() & !table,
             "the argument '--of <spans|async>' goes with '--top <N>', '--json' and '--base <FILE>' alone",
         ),
@@ -206,21 +214,28 @@ fn idle_rule(options: &Options) -> Option<&'static str>
     ])
 }
 
-/// What is said of columns or a number that what is summed doesn't have, or the text that is asked for.
+/// What is said of columns or numbers that what is summed doesn't have, or the text that is asked for.
 pub(crate) fn unsuited_rule(options: &Options, summed: &Summed) -> Option<&'static str>
     ensures { is_some result
         ≡ (is_broken (unsuited options.now summed.now) || is_broken (untested options.now summed.now)) }
 {
-    let (of, columns) = (summed.of, &summed.columns);
+    let (of, columns, numbers) = (summed.of, &summed.columns, &summed.numbers);
+    let by = by_of(options);
     let rule = first_broken(&[
-        Rule(options.by.is_some() & by_of(options).is_none(), NUMBER_RULE),
+        Rule(options.by.is_some() & by.is_none(), BY_RULE),
         Rule(!options.add & !go_with(of, columns), others_rule_of(of)),
         Rule(
             have_file(columns) & !(takes_apart(options) | options.add),
             file_rule_of(of),
         ),
         Rule(options.folded & !are_of_spans(columns), LABEL_RULE),
-        Rule(!options.add & !goes_by(of, by_of(options)), NUMBER_RULE),
+        Rule(!options.add & !goes_by(of.all(), by), BY_RULE),
+        Rule(!options.add & !are_numbers_of(of, numbers), NUMBERS_RULE),
+        Rule(options.add & !are_of_one_kind(numbers), NUMBERS_RULE),
+        Rule(
+            options.numbers.is_some() & !goes_by(numbers, by),
+            "the number of '--by' is to be among those of '--numbers <LIST>'",
+        ),
         Rule(
             options.json & options.by.is_some() & !options.repeats,
             "the argument '--json' cannot be used with '--by <SUM>'",

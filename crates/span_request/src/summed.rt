@@ -4,18 +4,19 @@ ghost use Rattle.span_request.specs.Asked.{AskNothing, IsAskedBy};
 
 use crate::columns::{columns_asked, rule_of};
 use crate::conditions::conditions_of;
-use crate::numbers::{OF_RULE, of_of};
+use crate::numbers::{NUMBERS_RULE, OF_RULE, numbers_asked, of_of};
 use span_narrowing::Condition;
 use span_options::Options;
-use span_table::{Column, Of};
+use span_table::{Column, Number, Of};
 use std::alloc::{AllocError, Global};
 use std::marker::Model;
 
-/// What is summed, by which columns, and on which conditions.
+/// What is summed, by which columns, which numbers are named, and the conditions.
 #[derive(Drop)]
 pub(crate) struct Summed {
     pub(crate) of: Of,
     pub(crate) columns: Vec<Column>,
+    pub(crate) numbers: Vec<Number>,
     pub(crate) conditions: Vec<Condition>,
 }
 
@@ -24,7 +25,7 @@ impl Model for Summed {
 
     ghost Value = { Asked };
 
-    ghost view = { λ s. record { of = s.of; columns = s.columns.items; conditions = s.conditions.items } };
+    ghost view = { λ s. record { of = s.of; columns = s.columns.items; numbers = s.numbers.items; conditions = s.conditions.items } };
 }
 
 /// What the options ask for, or what is said of a word that is not known.
@@ -40,10 +41,14 @@ pub(crate) fn summed_by(
     let Some(columns) = columns_asked(alloc, options, of)? else {
         return Ok(Err(rule_of(of)));
     };
+    let Some(numbers) = numbers_asked(alloc, options)? else {
+        return Ok(Err(NUMBERS_RULE));
+    };
     match conditions_of(alloc, of, &options.conditions)? {
         Ok(conditions) => Ok(Ok(Summed {
             of,
             columns,
+            numbers,
             conditions,
         })),
         Err(rule) => Ok(Err(rule)),

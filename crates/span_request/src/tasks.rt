@@ -1,11 +1,8 @@
 //! What a command line asks for.
-ghost use Rattle.std.specs.Prelude.{◌≡◌};
-ghost use Rattle.span_request.specs.Numbers.{named_by};
 
 use crate::views::{ComparisonForm, PageView, RepeatsForm, TableForm, TableOptions, View};
 use span_collect::Settings;
 use span_runs::{Name, Named};
-use span_table::Number;
 
 /// What a command line asks for.
 #[derive(Drop)]
@@ -73,24 +70,9 @@ pub struct Changes {
     pub base: Vec<Name>,
 }
 
-/// How the numbers of repeated runs are spread, of the base's files and of the others: by this number, or the usual one of what is
-/// summed.
+/// How the numbers of repeated runs are spread, of the base's files and of the others.
 #[derive(Drop)]
 pub struct Repetitions {
-    pub by: Option<Number>,
     pub form: RepeatsForm,
     pub base: Vec<Name>,
-}
-
-impl TableText {
-    /// The number that is named.
-    pub fn by(&self) -> Option<Number>
-        ensures { result ≡ named_by self.now }
-    {
-        match self {
-            TableText::Table(form) => form.by(),
-            TableText::Changes(changes) => changes.form.by(),
-            TableText::Repetitions(repetitions) => repetitions.by,
-        }
-    }
 }

@@ -1,8 +1,9 @@
 //! Which text the options ask for.
 ghost use Rattle.std.specs.Prelude.{◌≡◌};
-ghost use Rattle.span_request.specs.Texts.{has_table, is_any, leaves_text, most_rows, prints_table, shapes, texts};
+ghost use Rattle.span_request.specs.Texts.{audience_of, has_table, is_any, leaves_text, most_rows, prints_table, shapes, texts};
 
 use span_options::Options;
+use span_table::Audience;
 
 // The rows of a ranking that is meant though none is named.
 const USUAL_ROWS: u32 = 20;
@@ -21,11 +22,12 @@ pub(crate) fn texts(options: &Options) -> [bool; 5]
 }
 
 // Which options say how a table is made.
-fn shapes(options: &Options) -> [bool; 9]
+fn shapes(options: &Options) -> [bool; 10]
     ensures { result ≡ shapes options.now }
 {
     [
         options.by.is_some(),
+        options.numbers.is_some(),
         options.of.is_some(),
         options.group_by.is_some(),
         !options.conditions.is_empty(),
@@ -73,4 +75,15 @@ pub(crate) fn has_table(options: &Options) -> bool
     ensures { result ≡ has_table options.now }
 {
     prints_table(options) | options.page
+}
+
+/// Whom its table is for: a page shows that for other programs.
+pub(crate) fn audience_of(options: &Options) -> Audience
+    ensures { result ≡ audience_of options.now }
+{
+    if options.json | options.page {
+        Audience::Programs
+    } else {
+        Audience::People
+    }
 }

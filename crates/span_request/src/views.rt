@@ -1,11 +1,9 @@
 //! What is printed of what was collected, or added.
-ghost use Rattle.std.specs.Prelude.{◌≡◌};
-ghost use Rattle.span_request.specs.Numbers.{changes_by, table_by};
 
 use span_narrowing::Narrowing;
 use span_report::stacks::SpanColumn;
-use span_table::{Column, Number, Of};
-use span_table_text::Shown;
+use span_table::{Column, Of};
+use span_table_text::{AskedNumbers, Shown};
 
 /// What is printed of one run, beside its table.
 #[derive(Drop)]
@@ -27,13 +25,14 @@ pub struct PageView {
     pub labels: Vec<SpanColumn>,
 }
 
-/// Which table is printed: what is summed, by which columns, how it is narrowed, and which rows are shown. Tables that are added say
-/// themselves what they sum, and no columns are all of theirs.
+/// Which table is printed: what is summed, by which columns, which numbers are shown, how it is narrowed, and which rows are shown.
+/// Tables that are added say themselves what they sum, and no columns are all of theirs.
 #[derive(Drop)]
 pub struct TableOptions {
     pub of: Of,
     /// Those that are printed; those of conditions are summed beside them.
     pub columns: Vec<Column>,
+    pub numbers: AskedNumbers,
     pub narrowing: Narrowing,
     pub shown: Shown,
 }
@@ -41,46 +40,19 @@ pub struct TableOptions {
 /// How a table is printed.
 #[derive(Clone, Copy)]
 pub enum TableForm {
-    /// The first rows by this number, or by the usual one of what is summed, at most so many.
-    Ranking { most: u32, by: Option<Number> },
+    /// The first rows, at most so many.
+    Ranking { most: u32 },
     /// The rows for other programs.
     Json,
-}
-
-impl TableForm {
-    /// The number that is named.
-    pub fn by(self) -> Option<Number>
-        ensures { result ≡ table_by self }
-    {
-        match self {
-            TableForm::Ranking { most: _, by } => by,
-            TableForm::Json => None,
-        }
-    }
 }
 
 /// How a comparison is printed.
 #[derive(Clone, Copy)]
 pub enum ComparisonForm {
-    /// For people, with the greatest change of this number first; at most so many, where a number is named.
-    Text {
-        most: Option<u32>,
-        by: Option<Number>,
-    },
+    /// For people, with the greatest change first; at most so many, where a number is named.
+    Text { most: Option<u32> },
     /// For other programs.
     Json,
-}
-
-impl ComparisonForm {
-    /// The number that is named.
-    pub fn by(self) -> Option<Number>
-        ensures { result ≡ changes_by self }
-    {
-        match self {
-            ComparisonForm::Text { most: _, by } => by,
-            ComparisonForm::Json => None,
-        }
-    }
 }
 
 /// How repeated runs are printed.

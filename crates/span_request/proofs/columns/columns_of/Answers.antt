@@ -1,7 +1,7 @@
 use Rattle.std.proofs.Common.{◌≡◌, ◌∙◌, ◌≤◌, List, false, length, map, ap, subst, sym, None, Option, Some, Vec, Global}
 use Rattle.std.proofs.lemmas.List.{length-map}
 use Rattle.std.proofs.lemmas.Result.{IfOk-weaker}
-use Rattle.span_request.specs.{Bytes, Column, Columns.{AreEach, AreNamed, Finds, has_twice, names_in}}
+use Rattle.span_request.specs.{Bytes, Column, Columns.{AreEach, AreNamed}, Lists.{Finds, has_twice, names_in}}
 use Rattle.span_request.proofs.columns.columns_of.Goals as goal
 
 -- at most eight names, of which none comes twice, are those of the same columns

@@ -1,7 +1,7 @@
 use Rattle.std.proofs.lemmas.Iterator.Consumers.{map_from_collect}
 use Rattle.std.proofs.lemmas.Iterator.Splits.{YieldsList-from_str_split}
 use Rattle.std.proofs.Common.{lit<}
-use Rattle.span_request.proofs.columns.names_in.Goals as goal
+use Rattle.span_request.proofs.lists.names_in.Goals as goal
 
 pub returns : goal.returns
 returns c = map_from_collect _ c.collect.ensures.ran
