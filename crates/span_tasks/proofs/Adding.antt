@@ -1,10 +1,10 @@
 -- Tables that are added, one more, and what stopped among them.
-use Rattle.std.specs.{List.AllZip, Prelude.{All, Bool, Option, true, false}}
+use Rattle.std.specs.{List.AllZip, Prelude.{All, Bool, true, false}}
 use Rattle.span_table.specs.Adding.{add_tables}
-use Rattle.span_parts.specs.{Sum.{FirstFails, JoinsParts, PartFails}, declared.fault.PartFault.{PartFault, TheVariants.{Memory, NotTable, OtherColumns, TooMany}}}
+use Rattle.span_parts.specs.{Sum.{ChoosesOf, FirstFails, JoinsParts, PartFails}, declared.fault.PartFault.{PartFault, TheVariants.{Memory, NotTable, OtherColumns, TooMany}}}
 use Rattle.std.proofs.{Common.{◌≡◌, ℕ, suc, ◌<◌, List, [], ◌∷◌, ◌++◌, length, take, drop, inl, inr, refl, ap, sym, subst, ◌∙◌, append_assoc}, Math.{ListN.get_or, Seq.drop-cons}, lemmas.List.{take-append-drop, Elements.All-head}}
 use Rattle.span_parts.proofs.Taken.{JoinsParts-added}
-use Rattle.span_tasks.specs.{Bytes, Chooses, HasColumns, HasOtherColumns, IsPart, PartSum, SumsParts, TakesNone, chosen, AreAt, AreParts, SourceBytes, Name, TimeUnit, Column, Of, Number, SpanTable, TableOptions, goes_by, Summed.tested_in, Added.{Adds, AddsBeside, AddsEach, BeginsWith, IsOfKind, IsText, LacksAsked, LacksNumber, SaysPart, StopsAdding, StopsNext, TakesName, with_sum}, Sides.{AddTo, StopsLater}}
+use Rattle.span_tasks.specs.{Bytes, AskedParts, Chooses, HasOtherSchema, HasSchema, IsPart, LacksAsked, PartSum, SumsParts, TakesNone, AreParts, SourceBytes, Name, TimeUnit, Schema, SpanTable, Added.{Adds, AddsBeside, AddsEach, BeginsWith, IsOfKind, IsText, SaysPart, StopsAdding, StopsNext, TakesName, with_sum}, Sides.{AddTo, StopsLater}}
 
 pub AllZip-append : {A B : Type 0} (R : A → B → Type 0) (xs more : List A) (ys others : List B) → AllZip R xs ys → AllZip R more others → AllZip R (xs ++ more) (ys ++ others)
 AllZip-append R [] more [] others one other = other
@@ -16,38 +16,22 @@ AllZip-append R (x ∷ xs) more (y ∷ ys) others one other = (one.0, AllZip-app
 split-at : {A : Type 0} (xs : List A) (place : ℕ) (x : A) → place < length xs → x ≡ get_or xs place x → xs ≡ take place xs ++ x ∷ drop (suc place) xs
 split-at xs place x low is = sym (ap (λ n. take place xs ++ n ∷ drop (suc place) xs) is ∙ ap (λ ns. take place xs ++ ns) (sym (drop-cons xs place x low)) ∙ take-append-drop place xs)
 
--- the choice of columns is that of parts with the same
-pub Chooses-same : (shown tested : List Column) (old new : PartSum) → new.columns ≡ old.columns → new.places ≡ old.places → Chooses shown tested old → Chooses shown tested new
-Chooses-same shown tested old new columns places chooses =
-    subst (λ (cs : List Column). AreAt new.places (chosen shown tested cs) cs) (sym columns) (subst (λ (ps : List ℕ). AreAt ps (chosen shown tested old.columns) old.columns) (sym places) chooses)
-
--- the table of a text lacks a number that its sum lacks
-pub LacksNumber-first : (by : Option Number) (text : Bytes) (unit : TimeUnit) (of : Of) (parts : List SpanTable) → AreParts unit (text ∷ []) parts → All (λ (part : SpanTable). part.of ≡ of) parts → goes_by of by ≡ false → LacksNumber by text
-LacksNumber-first by text unit of [] are kinds lacks = absurd are
-LacksNumber-first by text unit of (part ∷ parts) are kinds lacks = record {
-  unit = unit;
-  part = part;
-  is = are.0;
-  lacks = ap (λ (o : Of). goes_by o by) (All-head (λ (p : SpanTable). p.of ≡ of) part parts kinds) ∙ lacks;
-}
+-- what is chosen is what is of parts of the same schema
+pub Chooses-same : (asked : AskedParts) (old new : PartSum) → new.schema ≡ old.schema → new.choice ≡ old.choice → Chooses asked old → Chooses asked new
+Chooses-same asked old new schema choice chooses =
+    subst (λ s. ChoosesOf asked s new.choice) (sym schema) (subst (λ c. ChoosesOf asked old.schema c) (sym choice) chooses)
 
 -- the text whose part alone is added is of the kind of its sum
-HasColumns-only : (text : Bytes) (sum : PartSum) → SumsParts (text ∷ []) sum → HasColumns sum.of sum.unit sum.columns text
-HasColumns-only text sum sums = by sums.parts sums.are sums.kinds sums.columns
+HasSchema-only : (text : Bytes) (sum : PartSum) → SumsParts (text ∷ []) sum → HasSchema sum.schema sum.unit text
+HasSchema-only text sum sums = by sums.parts sums.are sums.schemas
   where
-    by : (parts : List SpanTable) → AreParts sum.unit (text ∷ []) parts → All (λ (part : SpanTable). part.of ≡ sum.of) parts → All (λ (part : SpanTable). part.columns ≡ sum.columns) parts →
-        HasColumns sum.of sum.unit sum.columns text
-    by [] are kinds columns = absurd are
-    by (part ∷ parts) are kinds columns = record {
-      part = part;
-      is = are.0;
-      kind = All-head (λ (p : SpanTable). p.of ≡ sum.of) part parts kinds;
-      by = All-head (λ (p : SpanTable). p.columns ≡ sum.columns) part parts columns;
-    }
+    by : (parts : List SpanTable) → AreParts sum.unit (text ∷ []) parts → All (λ (part : SpanTable). part.schema ≡ sum.schema) parts → HasSchema sum.schema sum.unit text
+    by [] are schemas = absurd are
+    by (part ∷ parts) are schemas = record { part = part; is = are.0; by = All-head (λ (p : SpanTable). p.schema ≡ sum.schema) part parts schemas }
 
 -- sums of one kind
-pub with_sum-same : (one other : PartSum) (table : SpanTable) → other.of ≡ one.of → other.unit ≡ one.unit → other.columns ≡ one.columns → other.places ≡ one.places → with_sum other table ≡ with_sum one table
-with_sum-same one other table of unit columns places = λ i. record { of = of i; unit = unit i; columns = columns i; places = places i; sum = table }
+pub with_sum-same : (one other : PartSum) (table : SpanTable) → other.unit ≡ one.unit → other.schema ≡ one.schema → other.choice ≡ one.choice → with_sum other table ≡ with_sum one table
+with_sum-same one other table unit schema choice = λ i. record { unit = unit i; schema = schema i; choice = choice i; sum = table }
 
 module _ (source : SourceBytes) where
   -- what is added to parts is added to others of their kind
@@ -56,22 +40,22 @@ module _ (source : SourceBytes) where
 
   -- none beside a kind
   pub AddsBeside-none : (kind none : PartSum) → TakesNone kind none → AddsBeside source kind [] none
-  AddsBeside-none kind none takes = record { texts = []; read = tt; of = takes.of; unit = takes.unit; columns = takes.columns; places = takes.places; sums = takes.sums }
+  AddsBeside-none kind none takes = record { texts = []; read = tt; unit = takes.unit; schema = takes.schema; choice = takes.choice; sums = takes.sums }
 
   -- the first alone
   pub AddsBeside-first : (name : Name) (first : PartSum) → BeginsWith source name first → AddsBeside source first (name ∷ []) first
-  AddsBeside-first name first begins = record { texts = begins.text ∷ []; read = (begins.read, tt); of = refl; unit = refl; columns = refl; places = refl; sums = begins.sums }
+  AddsBeside-first name first begins = record { texts = begins.text ∷ []; read = (begins.read, tt); unit = refl; schema = refl; choice = refl; sums = begins.sums }
 
   -- the table of the first is of the kind of its sum
   pub IsOfKind-first : (name : Name) (first : PartSum) → BeginsWith source name first → IsOfKind source name first
-  IsOfKind-first name first begins = (begins.text, begins.read, HasColumns-only begins.text first begins.sums)
+  IsOfKind-first name first begins = (begins.text, begins.read, HasSchema-only begins.text first begins.sums)
 
   -- and of parts of that kind
   pub IsOfKind-beside : (name : Name) (first kind : PartSum) → TakesNone first kind → IsOfKind source name first → IsOfKind source name kind
   IsOfKind-beside name first kind takes (text, read, has) = (
     text,
     read,
-    record { part = has.part; is = subst (λ (unit : TimeUnit). IsPart unit text has.part) (sym takes.unit) has.is; kind = has.kind ∙ sym takes.of; by = has.by ∙ sym takes.columns },
+    record { part = has.part; is = subst (λ (unit : TimeUnit). IsPart unit text has.part) (sym takes.unit) has.is; by = has.by ∙ sym takes.schema },
   )
 
   -- one more, behind others
@@ -79,10 +63,9 @@ module _ (source : SourceBytes) where
   AddsBeside-push kind names name old new beside takes = record {
     texts = beside.texts ++ takes.text ∷ [];
     read = AllZip-append (IsText source) names (name ∷ []) beside.texts (takes.text ∷ []) beside.read (takes.read, tt);
-    of = takes.takes.of ∙ beside.of;
     unit = takes.takes.unit ∙ beside.unit;
-    columns = takes.takes.columns ∙ beside.columns;
-    places = takes.takes.places ∙ beside.places;
+    schema = takes.takes.schema ∙ beside.schema;
+    choice = takes.takes.choice ∙ beside.choice;
     sums = takes.takes.sums beside.texts beside.sums;
   }
 
@@ -91,11 +74,10 @@ module _ (source : SourceBytes) where
   AddsBeside-append kind names more one other both first second joins = record {
     texts = first.texts ++ second.texts;
     read = AllZip-append (IsText source) names more first.texts second.texts first.read second.read;
-    of = joins.of ∙ first.of;
     unit = joins.unit ∙ first.unit;
-    columns = joins.columns ∙ first.columns;
-    places = joins.places ∙ first.places;
-    sums = joins.sums first.texts second.texts (second.of ∙ sym first.of) (second.unit ∙ sym first.unit) (second.columns ∙ sym first.columns) (second.places ∙ sym first.places) first.sums second.sums;
+    schema = joins.schema ∙ first.schema;
+    choice = joins.choice ∙ first.choice;
+    sums = joins.sums first.texts second.texts (second.unit ∙ sym first.unit) (second.schema ∙ sym first.schema) (second.choice ∙ sym first.choice) first.sums second.sums;
   }
 
   -- what is added beside a kind is added to it
@@ -103,25 +85,24 @@ module _ (source : SourceBytes) where
   Adds-beside kind names sum beside = record {
     texts = beside.texts;
     read = beside.read;
-    sums = subst (SumsParts beside.texts) (with_sum-same kind sum sum.sum beside.of beside.unit beside.columns beside.places) beside.sums;
+    sums = subst (SumsParts beside.texts) (with_sum-same kind sum sum.sum beside.unit beside.schema beside.choice) beside.sums;
   }
 
   -- and the other way round
   AddsBeside-of : (kind : PartSum) (names : List Name) (table : SpanTable) → Adds source kind names table → AddsBeside source kind names (with_sum kind table)
-  AddsBeside-of kind names table adds = record { texts = adds.texts; read = adds.read; of = refl; unit = refl; columns = refl; places = refl; sums = adds.sums }
+  AddsBeside-of kind names table adds = record { texts = adds.texts; read = adds.read; unit = refl; schema = refl; choice = refl; sums = adds.sums }
 
   -- at the name of this place, behind others
   pub StopsLater-sum : (done names : List Name) (place : ℕ) (name : Name) (kind middle : PartSum) (lines : Bytes) → place < length names → name ≡ get_or names place name →
-      AddsBeside source kind (done ++ take place names) middle → StopsAdding source (HasOtherColumns middle.of middle.unit middle.columns) name lines → StopsLater source false kind (done ++ names) lines
+      AddsBeside source kind (done ++ take place names) middle → StopsAdding source (HasOtherSchema middle.schema middle.unit) name lines → StopsLater source false kind (done ++ names) lines
   StopsLater-sum done names place name kind middle lines low is beside stops = record {
     done = done ++ take place names;
     later = name ∷ drop (suc place) names;
     split = ap (λ ns. done ++ ns) (split-at names place name low is) ∙ sym (append_assoc done (take place names) (name ∷ drop (suc place) names));
     tables = middle.sum ∷ [];
     added = (middle.sum, Adds-beside kind (done ++ take place names) middle beside, refl);
-    cause = subst (λ (columns : List Column). StopsAdding source (HasOtherColumns kind.of kind.unit columns) name lines) beside.columns
-        (subst (λ (unit : TimeUnit). StopsAdding source (HasOtherColumns kind.of unit middle.columns) name lines) beside.unit
-        (subst (λ (of : Of). StopsAdding source (HasOtherColumns of middle.unit middle.columns) name lines) beside.of stops));
+    cause = subst (λ (schema : Schema). StopsAdding source (HasOtherSchema schema kind.unit) name lines) beside.schema
+        (subst (λ (unit : TimeUnit). StopsAdding source (HasOtherSchema middle.schema unit) name lines) beside.unit stops);
   }
 
   -- with more names after them
@@ -143,10 +124,10 @@ module _ (source : SourceBytes) where
   pub StopsLater-behind : (kind : PartSum) (names more : List Name) (one : PartSum) (lines : Bytes) → AddsBeside source kind names one → StopsLater source false kind more lines → StopsLater source false kind (names ++ more) lines
   StopsLater-behind kind names more one lines first stops =
       let table = stops.added.0 in
-      let both = add_tables one.sum.of one.sum.columns (one.sum ∷ table ∷ []) in
+      let both = add_tables one.sum.schema (one.sum ∷ table ∷ []) in
       let other = with_sum kind table in
       let joins = JoinsParts-added one other both refl in
-      let sum : PartSum = record { of = one.of; unit = one.unit; columns = one.columns; places = one.places; sum = both } in
+      let sum : PartSum = record { unit = one.unit; schema = one.schema; choice = one.choice; sum = both } in
       record {
         done = names ++ stops.done;
         later = stops.later;
@@ -166,7 +147,7 @@ module _ (source : SourceBytes) where
 
   -- at the name of this place, behind a table of each
   pub StopsLater-at : (names : List Name) (place : ℕ) (name : Name) (parts : PartSum) (tables : List SpanTable) (lines : Bytes) → place < length names → name ≡ get_or names place name →
-      AddsEach source parts (take place names) tables → StopsAdding source (HasOtherColumns parts.of parts.unit parts.columns) name lines → StopsLater source true parts names lines
+      AddsEach source parts (take place names) tables → StopsAdding source (HasOtherSchema parts.schema parts.unit) name lines → StopsLater source true parts names lines
   StopsLater-at names place name parts tables lines low is each stops = record {
     done = take place names;
     later = name ∷ drop (suc place) names;
@@ -188,20 +169,20 @@ module _ (source : SourceBytes) where
   }
 
   -- why a table was not added
-  pub StopsAdding-part : (name : Name) (text : Bytes) (of : Of) (unit : TimeUnit) (columns : List Column) (fault : PartFault) → IsText source name text → PartFails of unit columns text fault → (lines : Bytes) →
-      SaysPart name fault lines → StopsAdding source (HasOtherColumns of unit columns) name lines
-  StopsAdding-part name text of unit columns NotTable read fails lines says = inr (inl (text, read, fails, says))
-  StopsAdding-part name text of unit columns OtherColumns read fails lines says = inr (inr (text, read, fails, says))
-  StopsAdding-part name text of unit columns Memory read fails lines says = absurd says
-  StopsAdding-part name text of unit columns TooMany read fails lines says = absurd says
+  pub StopsAdding-part : (name : Name) (text : Bytes) (schema : Schema) (unit : TimeUnit) (fault : PartFault) → IsText source name text → PartFails schema unit text fault → (lines : Bytes) →
+      SaysPart name fault lines → StopsAdding source (HasOtherSchema schema unit) name lines
+  StopsAdding-part name text schema unit NotTable read fails lines says = inr (inl (text, read, fails, says))
+  StopsAdding-part name text schema unit OtherColumns read fails lines says = inr (inr (text, read, fails, says))
+  StopsAdding-part name text schema unit Memory read fails lines says = absurd says
+  StopsAdding-part name text schema unit TooMany read fails lines says = absurd says
 
   -- why a first table is none of the kind that is asked for
-  pub StopsAdding-first : (name : Name) (text : Bytes) (options : TableOptions) (by : Option Number) (fault : PartFault) → IsText source name text → FirstFails options.columns.items (tested_in options) text fault → (lines : Bytes) →
-      SaysPart name fault lines → StopsAdding source (LacksAsked options by) name lines
-  StopsAdding-first name text options by NotTable read fails lines says = inr (inl (text, read, fails, says))
-  StopsAdding-first name text options by OtherColumns read fails lines says = inr (inr (text, read, inl fails, says))
-  StopsAdding-first name text options by Memory read fails lines says = absurd says
-  StopsAdding-first name text options by TooMany read fails lines says = absurd says
+  pub StopsAdding-first : (name : Name) (text : Bytes) (asked : AskedParts) (fault : PartFault) → IsText source name text → FirstFails asked text fault → (lines : Bytes) →
+      SaysPart name fault lines → StopsAdding source (LacksAsked asked) name lines
+  StopsAdding-first name text asked NotTable read fails lines says = inr (inl (text, read, fails, says))
+  StopsAdding-first name text asked OtherColumns read fails lines says = inr (inr (text, read, fails, says))
+  StopsAdding-first name text asked Memory read fails lines says = absurd says
+  StopsAdding-first name text asked TooMany read fails lines says = absurd says
 
   -- a table of each of the names, by other words
   AllZip-weaker : {A B : Type 0} (R T : A → B → Type 0) → ((x : A) (y : B) → R x y → T x y) → (xs : List A) (ys : List B) → AllZip R xs ys → AllZip T xs ys
@@ -213,7 +194,7 @@ module _ (source : SourceBytes) where
   -- what is added to a first is added to its kind
   pub AddTo-kind : (each : Bool) (first kind : PartSum) (names : List Name) (tables : List SpanTable) → TakesNone first kind → AddTo each source first names tables → AddTo each source kind names tables
   AddTo-kind false first kind names tables takes (table, adds, is) =
-      (table, Adds-same kind first names table (sym (with_sum-same first kind table takes.of takes.unit takes.columns takes.places)) adds, is)
+      (table, Adds-same kind first names table (sym (with_sum-same first kind table takes.unit takes.schema takes.choice)) adds, is)
   AddTo-kind true first kind names tables takes each =
       AllZip-weaker (λ (n : Name) (t : SpanTable). Adds source first (n ∷ []) t) (λ (n : Name) (t : SpanTable). Adds source kind (n ∷ []) t)
-      (λ n t. Adds-same kind first (n ∷ []) t (sym (with_sum-same first kind t takes.of takes.unit takes.columns takes.places))) names tables each
+      (λ n t. Adds-same kind first (n ∷ []) t (sym (with_sum-same first kind t takes.unit takes.schema takes.choice))) names tables each

@@ -8,7 +8,7 @@ use Rattle.span_journal.specs.{Legal.{IsLegal, journal_after, next_entry, sequen
 use Rattle.span_journal.proofs.LegalJournals.{sequential-legal}
 use Rattle.span_collect.specs.{InTurn.calls_in_turn, Seals.{seals_of, with_seals}}
 use Rattle.span_request.specs.declared.views.View.{View, TheVariants.{Folded, Page, Refusals, Report}}
-use Rattle.span_tasks.specs.{Entry, FileEnd, Input, Asked, Sealing, Settings, AreSeparate, ends_from, journal_in_turn, text_in_turn, status_of, SealedAccount, page_of, json_of, narrowed, SpanTable, Summed.columns_of, Together.{page_table, text_of}}
+use Rattle.span_tasks.specs.{Entry, FileEnd, Input, Asked, Sealing, Settings, AreSeparate, ends_from, journal_in_turn, text_in_turn, status_of, SealedAccount, page_of, json_of, narrowed, SpanTable, Summed.summed_of, Together.{page_table, text_of}}
 
 module _ (files : List Input) (settings : Settings) (ends : List FileEnd) (asked : Asked) (sealing : Sealing) (journal : List Entry)
     (account : SealedAccount files [] settings ends asked sealing journal) (separate : AreSeparate settings.unit files) (below : status_of ends asked sealing < 2) where
@@ -24,7 +24,7 @@ module _ (files : List Input) (settings : Settings) (ends : List FileEnd) (asked
       page_of-alike settings.unit view.labels.items (json_of settings.unit view.options.shown (page_table view files ends journal)) files ends (ends_from settings.unit 1 files) journal (journal_in_turn settings files []) alike
       (refusals_of-in_turn files [] settings ends asked sealing journal account separate below) (end_lines-in_turn files [] settings ends asked sealing journal account separate below)
       ∙ ap (λ (table : SpanTable). page_of settings.unit view.labels.items (json_of settings.unit view.options.shown (narrowed view.options.narrowing table)) files (ends_from settings.unit 1 files) (journal_in_turn settings files []))
-      (table_of_run-in_turn files settings ends asked sealing journal account separate below view.options.of (columns_of view.options))
+      (table_of_run-in_turn files settings ends asked sealing journal account separate below (summed_of view.options))
 
 -- the calls of one journal, and then more
 journal_after-append : (strict : Bool) (journal : List Entry) (calls others : List (ℕ × Op)) → journal_after strict journal (calls ++ others) ≡ journal_after strict (journal_after strict journal calls) others

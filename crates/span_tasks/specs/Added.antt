@@ -1,6 +1,6 @@
 -- Tables that were printed are read and added.
-use Rattle.std.specs.{List.AllZip, Prelude.{◌≡◌, ◌⊎◌, ℕ, ◌+◌, ◌<◌, ◌≤◌, ◌^◌, true, false, List, [], ◌∷◌, length, Option}}
-use Rattle.span_tasks.specs.{Bytes, FileCountFault, NotTableFault, OtherColumnsFault, number_of, fault_line, run_line, unread_line, AreFirst, SourceBytes, Name, printed, Chooses, HasColumns, HasOtherColumns, IsNoPart, LacksColumn, PartSum, SumsParts, TakesPart, IsPart, goes_by, Number, SpanTable, TableOptions, TimeUnit, Summed.tested_in}
+use Rattle.std.specs.{List.AllZip, Prelude.{◌≡◌, ◌⊎◌, ℕ, ◌+◌, ◌<◌, ◌≤◌, ◌^◌, List, [], ◌∷◌, length}}
+use Rattle.span_tasks.specs.{Bytes, FileCountFault, NotTableFault, OtherColumnsFault, number_of, fault_line, run_line, unread_line, AreFirst, SourceBytes, Name, printed, Chooses, HasOtherSchema, HasSchema, IsNoPart, LacksAsked, PartSum, SumsParts, TakesPart, SpanTable, TableOptions, Summed.asked_of}
 use Rattle.span_parts.specs.declared.fault.PartFault.{PartFault, TheVariants.{NotTable, OtherColumns}}
 
 -- the most bytes that a table may have
@@ -16,11 +16,11 @@ pub record IsText (source : SourceBytes) (name : Name) (text : Bytes) : Type 0 w
   pub read : IsRead source name text
   pub within : length text ≤ most_added
 
--- a sum of what these parts sum, in their unit, by their columns and at these places, that is this table
+-- a sum in the unit and of the schema of these parts, with what is chosen of it, that is this table
 abbrev pub with_sum : PartSum → SpanTable → PartSum
-with_sum parts table = record { of = parts.of; unit = parts.unit; columns = parts.columns; places = parts.places; sum = table }
+with_sum parts table = record { unit = parts.unit; schema = parts.schema; choice = parts.choice; sum = table }
 
--- the table is the sum of the tables of these names, each of which sums what these parts do, in their unit and by their columns
+-- the table is the sum of the tables of these names, each of which has the unit and the schema of these parts
 pub record Adds (source : SourceBytes) (parts : PartSum) (names : List Name) (table : SpanTable) : Type 0 where
   pub texts : List Bytes
   pub read : AllZip (IsText source) names texts
@@ -34,36 +34,19 @@ AddsEach source parts names tables = AllZip (λ name table. Adds source parts (n
 pub record AddsBeside (source : SourceBytes) (kind : PartSum) (names : List Name) (sum : PartSum) : Type 0 where
   pub texts : List Bytes
   pub read : AllZip (IsText source) names texts
-  pub of : sum.of ≡ kind.of
   pub unit : sum.unit ≡ kind.unit
-  pub columns : sum.columns ≡ kind.columns
-  pub places : sum.places ≡ kind.places
+  pub schema : sum.schema ≡ kind.schema
+  pub choice : sum.choice ≡ kind.choice
   pub sums : SumsParts texts sum
-
--- parts by the columns that are asked for, with the number that rows are to go by
-pub record AreAsked (options : TableOptions) (by : Option Number) (parts : PartSum) : Type 0 where
-  pub chooses : Chooses options.columns.items (tested_in options) parts
-  pub number : goes_by parts.of by ≡ true
 
 -- the table of this name is of the kind of these parts
 abbrev pub IsOfKind : SourceBytes → Name → PartSum → Type 0
-IsOfKind source name parts = (text : Bytes) × IsText source name text × HasColumns parts.of parts.unit parts.columns text
+IsOfKind source name parts = (text : Bytes) × IsText source name text × HasSchema parts.schema parts.unit text
 
 -- the table of the first of these names is of the kind of these parts, which have what is asked for
-abbrev pub AreOfFirst : SourceBytes → TableOptions → Option Number → List Name → PartSum → Type 0
-AreOfFirst source options by [] parts = ⊥
-AreOfFirst source options by (name ∷ later) parts = AreAsked options by parts × IsOfKind source name parts
-
--- a number that rows are to go by is missing from the table of this text
-pub record LacksNumber (by : Option Number) (text : Bytes) : Type 0 where
-  pub unit : TimeUnit
-  pub part : SpanTable
-  pub is : IsPart unit text part
-  pub lacks : goes_by part.of by ≡ false
-
--- a column, or the number, that is asked for is missing
-abbrev pub LacksAsked : TableOptions → Option Number → Bytes → Type 0
-LacksAsked options by text = LacksColumn options.columns.items (tested_in options) text ⊎ LacksNumber by text
+abbrev pub AreOfFirst : SourceBytes → TableOptions → List Name → PartSum → Type 0
+AreOfFirst source options [] parts = ⊥
+AreOfFirst source options (name ∷ later) parts = Chooses (asked_of options) parts × IsOfKind source name parts
 
 -- this is said of a name that was not read, or whose text is too long for a table
 abbrev pub IsNoText : SourceBytes → Name → Bytes → Type 0
@@ -79,16 +62,16 @@ StopsAdding source IsOther name lines = IsNoText source name lines
 -- this is said of the first of these names, whose table is of another kind than these parts
 abbrev pub StopsNext : SourceBytes → PartSum → List Name → Bytes → Type 0
 StopsNext source parts [] lines = ⊥
-StopsNext source parts (name ∷ later) lines = StopsAdding source (HasOtherColumns parts.of parts.unit parts.columns) name lines
+StopsNext source parts (name ∷ later) lines = StopsAdding source (HasOtherSchema parts.schema parts.unit) name lines
 
 -- there are 2^32 names or more, as the line says
 abbrev pub AreTooMany : List Name → Bytes → Type 0
 AreTooMany names lines = (2 ^ 32 ≤ length names) × (lines ≡ run_line (number_of FileCountFault))
 
 -- this is said of the first name, whose table begins parts, or there is none
-abbrev pub StopsFirst : SourceBytes → TableOptions → Option Number → List Name → Bytes → Type 0
-StopsFirst source options by [] lines = lines ≡ run_line (number_of FileCountFault)
-StopsFirst source options by (name ∷ later) lines = StopsAdding source (LacksAsked options by) name lines
+abbrev pub StopsFirst : SourceBytes → TableOptions → List Name → Bytes → Type 0
+StopsFirst source options [] lines = lines ≡ run_line (number_of FileCountFault)
+StopsFirst source options (name ∷ later) lines = StopsAdding source (LacksAsked (asked_of options)) name lines
 
 -- the parts are of the table of this name alone
 pub record BeginsWith (source : SourceBytes) (name : Name) (parts : PartSum) : Type 0 where

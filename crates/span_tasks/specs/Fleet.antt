@@ -1,7 +1,7 @@
 -- Files that are summed on many machines, and tables that are added in whatever groups.
 use Rattle.std.specs.{List.{AllZip, Sorted.IsPermutation}, Prelude.{◌≡◌, ◌⊎◌, Bool, true, false, List, [], ◌∷◌, ◌++◌, map, All, Contains, Some}}
 use Rattle.span_request.specs.declared.tasks.Items.TheVariants.{Apart as EachApart, Printed, Together}
-use Rattle.span_tasks.specs.{Bytes, Input, Settings, IsAccounted, run_alone, run_of_files, AreInputs, Listed, shorter, SourceBytes, TimeUnit, Column, Of, Run, table_of, IsPrint, Wanted, shown_table, chosen, is_plain, Items, TableOptions, Summed.tested_in, Tabulations.MakesJson, Together.EndsWell, declared.together.TogetherRun.TogetherRun}
+use Rattle.span_tasks.specs.{Bytes, Input, Settings, IsAccounted, run_alone, run_of_files, AreInputs, Listed, shorter, SourceBytes, TimeUnit, Schema, Run, table_of, IsPrint, Wanted, shown_numbers, shown_table, chosen, is_plain, Items, TableOptions, Summed.{schema_of, tested_in}, Tabulations.MakesJson, Together.EndsWell, declared.together.TogetherRun.TogetherRun}
 
 mutual
   -- A run of the program that prints a table as JSON Lines: of files, each apart or together, or of tables that others printed.
@@ -46,17 +46,21 @@ abbrev mutual
   AreRunsOfEach (one part) runs = AreRunsOf part runs
   AreRunsOfEach (more part parts) runs = (own : List Run) × (later : List Run) × AreRunsOf part own × AreRunsOfEach parts later × (runs ≡ own ++ later)
 
--- what a table sums, in which unit and by which columns
+-- the unit and the schema of a table
 pub record TableKind : Type 0 where
-  pub of : Of
   pub unit : TimeUnit
-  pub columns : List Column
+  pub schema : Schema
+
+-- what is asked for of tables of a schema: columns, and numbers, which are among theirs where the tables are added
+abbrev pub asked_schema : TableOptions → Schema → Schema
+asked_schema options schema =
+    record { of = schema.of; columns = chosen options.columns.items (tested_in options) schema.columns; numbers = shown_numbers options.numbers schema.of schema.numbers }
 
 abbrev mutual
   -- the kind of what a fleet prints
   pub kind_of : Fleet → TableKind
-  kind_of (of_files source apart settings options listed) = record { of = options.of; unit = settings.unit; columns = options.columns.items }
-  kind_of (of_printed source options listed parts) = record { of = (kind_of_first parts).of; unit = (kind_of_first parts).unit; columns = chosen options.columns.items (tested_in options) (kind_of_first parts).columns }
+  kind_of (of_files source apart settings options listed) = record { unit = settings.unit; schema = schema_of options }
+  kind_of (of_printed source options listed parts) = record { unit = (kind_of_first parts).unit; schema = asked_schema options (kind_of_first parts).schema }
 
   -- that of the first of some tables, which the others have too
   pub kind_of_first : Fleets → TableKind
@@ -69,7 +73,7 @@ all_rows = record { only = []; skip = [] }
 
 -- no column of tables that are added is dropped
 abbrev pub KeepsColumns : TableOptions → Fleets → Type 0
-KeepsColumns options parts = All (Contains (chosen options.columns.items (tested_in options) (kind_of_first parts).columns)) (kind_of_first parts).columns
+KeepsColumns options parts = All (Contains (chosen options.columns.items (tested_in options) (kind_of_first parts).schema.columns)) (kind_of_first parts).schema.columns
 
 abbrev mutual
   -- A fleet, of which nothing is narrowed, shows these rows: it is asked for them, of all rows of its parts; or each of the parts shows
@@ -86,7 +90,7 @@ abbrev mutual
 -- Whatever a fleet prints is the table of the runs of all its files, or the rows of it that it shows.
 abbrev pub FleetsLoseNothing : Type 0
 FleetsLoseNothing = (wanted : Wanted) (fleet : Fleet) (text : Bytes) → Shows wanted fleet → Prints fleet text →
-    (runs : List Run) × AreRunsOf fleet runs × IsPrint (kind_of fleet).unit text (shown_table wanted (table_of (kind_of fleet).of (kind_of fleet).columns runs))
+    (runs : List Run) × AreRunsOf fleet runs × IsPrint (kind_of fleet).unit text (shown_table wanted (table_of (kind_of fleet).schema runs))
 
 -- whatever the runs of the files of one fleet are, they are those of the other, in some order
 abbrev pub HaveSameRuns : Fleet → Fleet → Type 0

@@ -1,6 +1,6 @@
 -- A page of files each of which is a run of its own.
 use Rattle.std.specs.Prelude.{◌≡◌, ◌⊎◌, ℕ, nat_le, if◌then◌else◌, List, [], ◌∷◌, ◌++◌, length, map, Result, MatchResult}
-use Rattle.span_tasks.specs.{Bytes, Unit, Input, Settings, ends_from, journal_in_turn, Holds, ShownRun, TakesRun, page_of_runs, FileRun, AddsFile, GathersFiles, IsSumOf, Listed, shortened, Halt, OfStop, StopsAfter, StopsAmong, Name, SourceBytes, PageView, Run, SpanTable, SummedTable, json_of, narrowed, warning_lines, Gathered, Summed.columns_of, Texts.{PageExceeds, PageFits}, Warnings.absent_lines, declared.pages.ShownFiles.ShownFiles}
+use Rattle.span_tasks.specs.{Bytes, Unit, Input, Settings, ends_from, journal_in_turn, Holds, ShownRun, TakesRun, page_of_runs, FileRun, AddsFile, GathersFiles, IsSumOf, Listed, shortened, Halt, OfStop, StopsAfter, StopsAmong, Name, SourceBytes, PageView, Run, SpanTable, SummedTable, json_of, narrowed, warning_lines, Gathered, Summed.summed_of, Texts.{PageExceeds, PageFits}, Warnings.absent_lines, declared.pages.ShownFiles.ShownFiles}
 
 -- the run of a file alone, in which its items stand in their order, as a page shows it
 abbrev pub shown_alone : Settings → Input → ShownRun
@@ -12,7 +12,7 @@ shown_runs settings files = if nat_le (length files) 64 then map (shown_alone se
 
 -- the runs come to the table that the page has of them
 abbrev pub asked_for : PageView → List Run → SummedTable → Type 0
-asked_for view = IsSumOf view.options.of (columns_of view.options)
+asked_for view = IsSumOf (summed_of view.options)
 
 -- what a page shows of the table of its runs
 abbrev pub seen : PageView → SpanTable → SpanTable

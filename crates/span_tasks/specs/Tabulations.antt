@@ -1,7 +1,7 @@
 -- What is printed of tables.
-use Rattle.std.specs.Prelude.{◌≡◌, ◌⊎◌, ◌≤◌, Bool, true, false, List, ◌∷◌, [], ◌++◌, length, Option, None}
+use Rattle.std.specs.Prelude.{◌≡◌, ◌⊎◌, ◌≤◌, Bool, true, false, List, ◌∷◌, [], ◌++◌, length}
 use Rattle.span_request.specs.declared.tasks.{Items.TheVariants.{Together}, TableText.TheVariants.{Changes, Repetitions, Table}}
-use Rattle.span_tasks.specs.{Bytes, FileCountFault, TooGreatFault, number_of, run_line, Unit, Listed, Name, SourceBytes, changes_by, table_by, Number, SpanTable, ComparisonForm, Items, RepeatsForm, TableForm, TableOptions, TableText, Tabulation, Sides.{AreSides, IsOneSide, StopSides, StopsOneSide}, Texts.{IsJson, IsTableText, TableExceeds, changes_fit, changes_text, repeats_fit, repeats_text}, Warnings.warned_of, declared.side.Side.Side}
+use Rattle.span_tasks.specs.{Bytes, FileCountFault, TooGreatFault, number_of, run_line, Unit, Listed, Name, SourceBytes, SpanTable, ComparisonForm, Items, RepeatsForm, TableForm, TableOptions, TableText, Tabulation, Sides.{AreSides, IsOneSide, StopSides, StopsOneSide}, Texts.{IsJson, IsTableText, TableExceeds, changes_fit, changes_text, repeats_fit, repeats_text}, Warnings.warned_of, declared.side.Side.Side}
 
 -- a head says how many runs there are, but that of one run
 abbrev pub says_runs : Items → Bool
@@ -9,17 +9,17 @@ says_runs (Together settings) = false
 says_runs items = true
 
 -- the one table of a side
-pub record OneTable (source : SourceBytes) (items : Items) (options : TableOptions) (by : Option Number) (files : Listed) : Type 0 where
+pub record OneTable (source : SourceBytes) (items : Items) (options : TableOptions) (files : Listed) : Type 0 where
   pub side : Side
-  pub is : IsOneSide source items options by false files side
+  pub is : IsOneSide source items options false files side
   pub table : SpanTable
   pub only : side.tables.items ≡ table ∷ []
 
 -- the one table of each side
-pub record BothTables (source : SourceBytes) (items : Items) (options : TableOptions) (by : Option Number) (base_files files : Listed) : Type 0 where
+pub record BothTables (source : SourceBytes) (items : Items) (options : TableOptions) (base_files files : Listed) : Type 0 where
   pub base : Side
   pub other : Side
-  pub are : AreSides source items options by false base_files files base other
+  pub are : AreSides source items options false base_files files base other
   pub earlier : SpanTable
   pub later : SpanTable
   pub only_base : base.tables.items ≡ earlier ∷ []
@@ -32,47 +32,47 @@ pub record AreFew (base_names names : List Name) : Type 0 where
   pub other : length names ≤ 64
 
 -- the tables of each side, one for each repetition
-pub record Repeated (source : SourceBytes) (items : Items) (options : TableOptions) (by : Option Number) (base_files files : Listed) : Type 0 where
+pub record Repeated (source : SourceBytes) (items : Items) (options : TableOptions) (base_files files : Listed) : Type 0 where
   pub few : AreFew base_files.names.items files.names.items
   pub base : Side
   pub other : Side
-  pub are : AreSides source items options by true base_files files base other
+  pub are : AreSides source items options true base_files files base other
 
 -- what is warned of two sides
 abbrev pub warned_of_both : Items → Side → Side → Bytes
-warned_of_both items base other = warned_of items base.columns.items (base.tables.items ++ other.tables.items) (base.said.warnings.items ++ other.said.warnings.items)
+warned_of_both items base other = warned_of items base.schema.columns (base.tables.items ++ other.tables.items) (base.said.warnings.items ++ other.said.warnings.items)
 
 module _ (source : SourceBytes) (items : Items) (options : TableOptions) (files : Listed) where
   -- this is the text of a table
-  pub record MakesText (by : Option Number) (Is : Unit → SpanTable → Bytes → Type 0) (text : Bytes) : Type 0 where
-    pub one : OneTable source items options by files
+  pub record MakesText (Is : Unit → SpanTable → Bytes → Type 0) (text : Bytes) : Type 0 where
+    pub one : OneTable source items options files
     pub is : Is one.side.unit one.table text
 
   -- these are its shown rows for other programs
   abbrev pub MakesJson : Bytes → Type 0
-  MakesJson text = MakesText None (λ unit table. IsJson unit options.shown table) text
+  MakesJson text = MakesText (λ unit table. IsJson unit options.shown table) text
 
 -- what comes of the files of a side, and of those of a base, if there is one
 module _ (source : SourceBytes) (items : Items) (options : TableOptions) (base_files files : Listed) where
   -- a table is printed
   pub record PrintsTable (form : TableForm) (text lines warnings : Bytes) : Type 0 where
-    pub made : MakesText source items options files (table_by form) (λ unit table. IsTableText unit form options.shown (says_runs items) table) text
+    pub made : MakesText source items options files (λ unit table. IsTableText unit form options (says_runs items) table) text
     pub said : lines ≡ made.one.side.said.lines.items
-    pub warned : warnings ≡ warned_of items made.one.side.columns.items made.one.side.tables.items made.one.side.said.warnings.items
+    pub warned : warnings ≡ warned_of items made.one.side.schema.columns made.one.side.tables.items made.one.side.said.warnings.items
 
   -- what changed is printed
   pub record PrintsChanges (form : ComparisonForm) (text lines warnings : Bytes) : Type 0 where
-    pub both : BothTables source items options (changes_by form) base_files files
-    pub fits : changes_fit form options.shown both.earlier both.later ≡ true
-    pub is : text ≡ changes_text both.base.unit form options.shown (says_runs items) both.earlier both.later
+    pub both : BothTables source items options base_files files
+    pub fits : changes_fit form options both.earlier both.later ≡ true
+    pub is : text ≡ changes_text both.base.unit form options (says_runs items) both.earlier both.later
     pub said : lines ≡ both.base.said.lines.items ++ both.other.said.lines.items
     pub warned : warnings ≡ warned_of_both items both.base both.other
 
   -- how numbers are spread is printed
-  pub record PrintsRepetitions (by : Option Number) (form : RepeatsForm) (text lines warnings : Bytes) : Type 0 where
-    pub repeated : Repeated source items options by base_files files
-    pub fits : repeats_fit repeated.base.of by form options.shown repeated.base.tables.items repeated.other.tables.items ≡ true
-    pub is : text ≡ repeats_text repeated.base.unit repeated.base.of repeated.base.columns.items by form options.shown repeated.base.tables.items repeated.other.tables.items
+  pub record PrintsRepetitions (form : RepeatsForm) (text lines warnings : Bytes) : Type 0 where
+    pub repeated : Repeated source items options base_files files
+    pub fits : repeats_fit repeated.base.schema form options repeated.base.tables.items repeated.other.tables.items ≡ true
+    pub is : text ≡ repeats_text repeated.base.unit repeated.base.schema form options repeated.base.tables.items repeated.other.tables.items
     pub said : lines ≡ repeated.base.said.lines.items ++ repeated.other.said.lines.items
     pub warned : warnings ≡ warned_of_both items repeated.base repeated.other
 
@@ -80,14 +80,14 @@ module _ (source : SourceBytes) (items : Items) (options : TableOptions) (base_f
   abbrev pub PrintsText : TableText → Bytes → Bytes → Bytes → Type 0
   PrintsText (Table form) text lines warnings = PrintsTable form text lines warnings
   PrintsText (Changes asked) text lines warnings = PrintsChanges asked.form text lines warnings
-  PrintsText (Repetitions asked) text lines warnings = PrintsRepetitions asked.by asked.form text lines warnings
+  PrintsText (Repetitions asked) text lines warnings = PrintsRepetitions asked.form text lines warnings
 
   -- a number of the text, which is for other programs, has more than 64 bits
   abbrev pub HasTooGreat : TableText → Type 0
-  HasTooGreat (Table form) = (one : OneTable source items options (table_by form) files) × TableExceeds form options.shown one.table
-  HasTooGreat (Changes asked) = (both : BothTables source items options (changes_by asked.form) base_files files) × (changes_fit asked.form options.shown both.earlier both.later ≡ false)
-  HasTooGreat (Repetitions asked) = (repeated : Repeated source items options asked.by base_files files)
-      × (repeats_fit repeated.base.of asked.by asked.form options.shown repeated.base.tables.items repeated.other.tables.items ≡ false)
+  HasTooGreat (Table form) = (one : OneTable source items options files) × TableExceeds form options.shown one.table
+  HasTooGreat (Changes asked) = (both : BothTables source items options base_files files) × (changes_fit asked.form options both.earlier both.later ≡ false)
+  HasTooGreat (Repetitions asked) = (repeated : Repeated source items options base_files files)
+      × (repeats_fit repeated.base.schema asked.form options repeated.base.tables.items repeated.other.tables.items ≡ false)
 
   -- 41 is said of repetitions that are none, or too many
   abbrev pub SaysNotFew : Bytes → Type 0
@@ -95,9 +95,9 @@ module _ (source : SourceBytes) (items : Items) (options : TableOptions) (base_f
 
   -- this is said where a side gives no tables
   abbrev pub StopsText : TableText → Bytes → Type 0
-  StopsText (Table form) lines = StopsOneSide source items options (table_by form) false files.names.items lines
-  StopsText (Changes asked) lines = StopSides source items options (changes_by asked.form) false base_files files lines
-  StopsText (Repetitions asked) lines = SaysNotFew lines ⊎ StopSides source items options asked.by true base_files files lines
+  StopsText (Table form) lines = StopsOneSide source items options false files.names.items lines
+  StopsText (Changes asked) lines = StopSides source items options false base_files files lines
+  StopsText (Repetitions asked) lines = SaysNotFew lines ⊎ StopSides source items options true base_files files lines
 
   -- this is said where no text is printed: a side gives no tables, or a number is too great
   abbrev pub StopsTabulation : TableText → Bytes → Type 0

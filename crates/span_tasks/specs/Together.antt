@@ -1,7 +1,7 @@
 -- What is named, collected as one run, and what is printed of it.
 use Rattle.std.specs.Prelude.{◌≡◌, ◌<◌, ◌≤◌, ◌⊎◌, ⊤, Bool, true, if◌then◌else◌, List, [], ◌∷◌, ◌++◌, Contains}
 use Rattle.span_request.specs.declared.views.View.{View, TheVariants.{Folded, Page, Refusals, Report}}
-use Rattle.span_tasks.specs.{Bytes, Entry, FileEnd, Input, Settings, RunError, StacksFault, number_of, report_of, refusals_of, most_names, folded_of, names_of, page_of, AreSeparate, IsNotCollected, SealedAccount, TextOf, run_code, status_of, text_in_turn, IsHint, warning_lines, warnings_of, fault_text, run_line, unread_line, AreInputs, SourceBytes, Name, printed, run_of_files, table_of_run, Unit, PageView, SpanTable, json_of, narrowed, Summed.columns_of, Texts.{PageExceeds, PageFits}, Warnings.absent_lines, declared.together.TogetherRun.TogetherRun}
+use Rattle.span_tasks.specs.{Bytes, Entry, FileEnd, Input, Settings, RunError, StacksFault, number_of, report_of, refusals_of, most_names, folded_of, names_of, page_of, AreSeparate, IsNotCollected, SealedAccount, TextOf, run_code, status_of, text_in_turn, IsHint, warning_lines, warnings_of, fault_text, run_line, unread_line, AreInputs, SourceBytes, Name, printed, run_of_files, table_of_run, Unit, PageView, SpanTable, json_of, narrowed, Summed.summed_of, Texts.{PageExceeds, PageFits}, Warnings.absent_lines, declared.together.TogetherRun.TogetherRun}
 
 -- what is named was read and collected as one run, and a journal accounts for it
 pub record IsTogether (source : SourceBytes) (names : List Name) (settings : Settings) (run : TogetherRun) : Type 0 where
@@ -38,7 +38,7 @@ StopsTogether source names settings lines = ((name : Name) × Contains names nam
 
 -- the table of a page, for these files, which ended so
 abbrev pub page_table : PageView → List Input → List FileEnd → List Entry → SpanTable
-page_table view files ends journal = narrowed view.options.narrowing (table_of_run view.options.of (columns_of view.options) (run_of_files files ends journal))
+page_table view files ends journal = narrowed view.options.narrowing (table_of_run (summed_of view.options) (run_of_files files ends journal))
 
 -- this view of what was collected in this unit
 abbrev pub text_of : Unit → View → List Input → TextOf

@@ -1,15 +1,15 @@
 //! Tables that were printed: they are read back, and added in several jobs at once.
-ghost use Rattle.std.specs.Prelude.{◌≡◌, ◌≤◌, length, true, IfErr, IfOk};
-ghost use Rattle.span_tasks.specs.{HasOtherColumns, OfStop, Added.{AddsEach, AreAsked, BeginsWith, IsNoText, IsTableBeside, IsText, LacksAsked, SaysPart, StopsAdding, TakesName}, Sides.{AddsBehind, AddsOrStops, AddsToFirst, JoinsSums, StopsLater}, places};
+ghost use Rattle.std.specs.Prelude.{◌≤◌, length, true, IfErr, IfOk};
+ghost use Rattle.span_tasks.specs.{Chooses, HasOtherSchema, LacksAsked, OfStop, Added.{AddsEach, BeginsWith, IsNoText, IsTableBeside, IsText, SaysPart, StopsAdding, TakesName}, Sides.{AddsBehind, AddsOrStops, AddsToFirst, JoinsSums, StopsLater}, Summed.asked_of, places};
 
 use crate::place::Place;
 use crate::summed::tested_in;
 use span_event::Fault;
 use span_names::HashKeys;
-use span_parts::{PartFault, Parts};
-use span_request::{TableOptions, goes_by};
+use span_parts::{Asked, PartFault, Parts};
+use span_request::TableOptions;
 use span_runs::{Halt, Name, Source, Stopped, in_jobs, jobs_for, sizes_of, unread};
-use span_table::{Number, Table};
+use span_table::Table;
 use std::alloc::Global;
 use std::random::RandomSource;
 use std::sync::Wait;
@@ -27,18 +27,17 @@ struct AddWork<'a, S> {
 }
 
 impl<'a, R: Threads + Wait + RandomSource + Sync, S: Source + Sync> Place<'a, R, S> {
-    /// The table of this name, by the columns and with the number that are asked for. Maps that files fill are hashed by these keys.
+    /// The table of this name, with the columns and the numbers that are asked for. Maps that files fill are hashed by these keys.
     pub(crate) fn first_parts(
         &self,
         keys: HashKeys,
         options: &TableOptions,
-        by: Option<Number>,
         name: &Name,
     ) -> Result<Parts, Halt>
-        ensures asked { IfOk result (AreAsked options.now by) }
+        ensures asked { IfOk result (Chooses (asked_of options.now)) }
         ensures first { IfOk result (BeginsWith (S.bytes self.now.source.now) name.now) }
         ensures stop { IfErr result (OfStop (StopsAdding (S.bytes self.now.source.now)
-            (LacksAsked options.now by) name.now)) }
+            (LacksAsked (asked_of options.now)) name.now)) }
     {
         let text = match read_table(self.alloc, self.source, name) {
             Ok(text) => text,
@@ -47,14 +46,15 @@ impl<'a, R: Threads + Wait + RandomSource + Sync, S: Source + Sync> Place<'a, R,
         let Ok(tested) = tested_in(self.alloc, options) else {
             return Err(Halt::Memory);
         };
-        let parts = match Parts::of_first(self.alloc, keys, &options.columns, &tested, &text) {
-            Ok(parts) => parts,
-            Err(fault) => return Err(halt_of_part(self.alloc, name, fault)),
+        let asked = Asked {
+            shown: &options.columns,
+            tested: &tested,
+            numbers: &options.numbers,
         };
-        if !goes_by(parts.kind(), by) {
-            return Err(halt_of_part(self.alloc, name, PartFault::OtherColumns));
+        match Parts::of_first(self.alloc, keys, &asked, &text) {
+            Ok(parts) => Ok(parts),
+            Err(fault) => Err(halt_of_part(self.alloc, name, fault)),
         }
-        Ok(parts)
     }
 
     /// The sum of the tables of these names, each of which is of the kind of these parts.
@@ -154,7 +154,7 @@ impl<'a, R: Threads + Wait + RandomSource + Sync, S: Source + Sync> Place<'a, R,
         ensures table { IfOk result
             (IsTableBeside (S.bytes self.now.source.now) parts.now name.now) }
         ensures stop { IfErr result (OfStop (StopsAdding (S.bytes self.now.source.now)
-            (HasOtherColumns parts.now.of parts.now.unit parts.now.columns) name.now)) }
+            (HasOtherSchema parts.now.schema parts.now.unit) name.now)) }
     {
         let Ok(none) = parts.of_none_beside(self.alloc, keys) else {
             return Err(Halt::Memory);
@@ -245,7 +245,7 @@ fn joined(first: Result<Parts, Halt>, second: Result<Parts, Halt>) -> Result<Par
 fn add_name<S: Source>(alloc: Global, source: &S, parts: Parts, name: &Name) -> Result<Parts, Halt>
     ensures sum { IfOk result (TakesName (S.bytes source.now) name.now parts) }
     ensures stop { IfErr result (OfStop (StopsAdding (S.bytes source.now)
-        (HasOtherColumns parts.of parts.unit parts.columns) name.now)) }
+        (HasOtherSchema parts.schema parts.unit) name.now)) }
 {
     let text = match read_table(alloc, source, name) {
         Ok(text) => text,

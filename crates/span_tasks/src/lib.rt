@@ -33,5 +33,5 @@ pub use span_request::{
     TableForm, TableOptions, TableText, Tabulation, Task, View,
 };
 pub use span_runs::{FolderFault, Name, Named, Reason, Source, SourceFault};
-pub use span_table::{Column, Number, Of};
-pub use span_table_text::Shown;
+pub use span_table::{Audience, Column, Number, Of};
+pub use span_table_text::{AskedNumbers, Shown};

@@ -5,7 +5,7 @@ ghost use Rattle.span_tasks.specs.{Unit as TheUnit, Holds, OfStop, ShownRun, Sto
 use crate::outcome::Print;
 use crate::place::Place;
 use crate::side::Apart;
-use crate::summed::columns_of;
+use crate::summed::summed_of;
 use crate::texts::{TableTexts, halt_of_page, string_of};
 use crate::warnings::warned_of_page;
 use span_collect::Settings;
@@ -142,10 +142,10 @@ impl<'a, R: Threads + Wait + RandomSource + Sync, S: Source + Sync> Place<'a, R,
     {
         let options = &view.options;
         let keys = HashKeys::random(self.rt);
-        let columns = columns_of(self.alloc, options)?;
+        let schema = summed_of(self.alloc, options)?;
         Ok(ShownFiles {
             keys,
-            summed: Gathered::of_none(self.alloc, keys, options.of, &columns)?,
+            summed: Gathered::of_none(self.alloc, keys, &schema)?,
             page: RunsPage::begin(self.alloc)?,
         })
     }
@@ -176,10 +176,10 @@ impl<'a, R: Threads + Wait + RandomSource + Sync, S: Source + Sync> Place<'a, R,
         let Ok(page) = self.with_run(settings.unit, view, page, &taken) else {
             return Err(Halt::Memory);
         };
-        let Ok(columns) = columns_of(self.alloc, &view.options) else {
+        let Ok(schema) = summed_of(self.alloc, &view.options) else {
             return Err(Halt::Memory);
         };
-        match summed.with_run(self.alloc, keys, view.options.of, &columns, &taken) {
+        match summed.with_run(self.alloc, keys, &schema, &taken) {
             Ok(summed) => Ok(ShownFiles { keys, summed, page }),
             Err(halt) => Err(halt),
         }
@@ -227,7 +227,7 @@ impl<'a, R: Threads + Wait + RandomSource + Sync, S: Source + Sync> Place<'a, R,
             alloc: self.alloc,
             unit,
             says_runs: true,
-            shown: &view.options.shown,
+            options: &view.options,
         };
         let text = match texts.table(TableForm::Json, &table) {
             Ok(text) => text,

@@ -11,7 +11,7 @@ use span_event::Fault;
 use span_names::HashKeys;
 use span_parts::Parts;
 use span_runs::{Halt, Listed, Name, Said, Source};
-use span_table::{Table, copies_of};
+use span_table::Table;
 use std::alloc::{AllocError, Global};
 use std::random::RandomSource;
 use std::sync::Wait;
@@ -43,11 +43,11 @@ impl<'a, R: Threads + Wait + RandomSource + Sync, S: Source + Sync> Place<'a, R,
         files: &Listed,
     ) -> Result<Sides, Halt>
         ensures sides { IfOk result (λ sides. AreBothGathered (S.bytes self.now.source.now) Printed
-            wanted.entry.options.now wanted.entry.by wanted.entry.each base.now files.now sides.base sides.other) }
+            wanted.entry.options.now wanted.entry.each base.now files.now sides.base sides.other) }
         ensures base_hints { IfOk result (λ sides. IsHint sides.base.hints.items) }
         ensures hints { IfOk result (λ sides. IsHint sides.other.hints.items) }
         ensures stop { IfErr result (OfStop (StopSides (S.bytes self.now.source.now) Printed
-            wanted.entry.options.now wanted.entry.by wanted.entry.each base.now files.now)) }
+            wanted.entry.options.now wanted.entry.each base.now files.now)) }
     {
         let printed = match self.printed_base(wanted, &base.names) {
             Ok(printed) => printed,
@@ -74,10 +74,10 @@ impl<'a, R: Threads + Wait + RandomSource + Sync, S: Source + Sync> Place<'a, R,
     /// The tables of these names, of which the first tells the kind.
     pub(crate) fn printed_base(&self, wanted: Wanted, names: &[Name]) -> Result<PrintedBase, Halt>
         ensures base { IfOk result (IsPrintedBase (S.bytes self.now.source.now)
-            wanted.entry.options.now wanted.entry.by wanted.entry.each names.now) }
+            wanted.entry.options.now wanted.entry.each names.now) }
         ensures hints { IfOk result (λ base. IsHint base.side.hints.items) }
         ensures stop { IfErr result (OfStop (StopsOneSide (S.bytes self.now.source.now) Printed
-            wanted.entry.options.now wanted.entry.by wanted.entry.each names.now)) }
+            wanted.entry.options.now wanted.entry.each names.now)) }
     {
         if names.len() as u64 >= TABLES {
             return Err(Halt::of_run(self.alloc, Fault::FileCount.code()));
@@ -89,7 +89,7 @@ impl<'a, R: Threads + Wait + RandomSource + Sync, S: Source + Sync> Place<'a, R,
             each: wanted.each,
             keys: HashKeys::random(self.rt),
         };
-        let first = match self.first_parts(taking.keys, wanted.options, wanted.by, name) {
+        let first = match self.first_parts(taking.keys, wanted.options, name) {
             Ok(first) => first,
             Err(halt) => return Err(halt),
         };
@@ -186,16 +186,14 @@ fn with_first(first: Parts, tables: Vec<Table>) -> Result<Vec<Table>, Halt>
 // The side that has these tables, which are of a kind.
 fn side_of_kind(alloc: Global, kind: &Parts, tables: Vec<Table>) -> Result<Side, AllocError>
     ensures unit { IfOk result (λ side. side.unit ≡ kind.now.unit) }
-    ensures of { IfOk result (λ side. side.of ≡ kind.now.of) }
-    ensures columns { IfOk result (λ side. side.columns.items ≡ kind.now.sum.columns) }
+    ensures schema { IfOk result (λ side. side.schema ≡ kind.now.sum.schema) }
     ensures tables { IfOk result (λ side. side.tables ≡ tables) }
     ensures lines { IfOk result (λ side. side.said.lines.items ≡ []) }
     ensures hints { IfOk result (λ side. side.hints.items ≡ []) }
 {
     Ok(Side {
         unit: kind.unit(),
-        of: kind.kind(),
-        columns: copies_of(alloc, kind.columns())?,
+        schema: kind.schema().try_clone(alloc)?,
         tables,
         said: Said::nothing(alloc),
         hints: Vec::new(alloc),

@@ -1,10 +1,10 @@
 //! The tables of one side, as they are gathered.
 ghost use Rattle.std.specs.Prelude.{◌≡◌, ◌∷◌, ◌++◌, [], true, false, length, IfErr, IfOk};
 ghost use Rattle.span_runs.specs.declared.stop.Halt.TheVariants.{Memory};
-ghost use Rattle.span_tasks.specs.{AreGathered, GathersOrStops, IsHint, shortened, OfStop, StopsAmong, run_of_files, table_of_run, warnings_of, Sides.{AreOptions, ComeTo, IsNarrowed, IsOfRun}, Summed.columns_of, Together.StopsTogether};
+ghost use Rattle.span_tasks.specs.{AreGathered, GathersOrStops, IsHint, shortened, OfStop, StopsAmong, run_of_files, table_of_run, warnings_of, Sides.{AreOptions, ComeTo, IsNarrowed, IsOfRun}, Summed.summed_of, Together.StopsTogether};
 
 use crate::place::Place;
-use crate::summed::columns_of;
+use crate::summed::{shown_schema, summed_of};
 use crate::together::TogetherRun;
 use span_collect::Settings;
 use span_collect::refusals::warnings_of;
@@ -15,7 +15,7 @@ use span_request::TableOptions;
 use span_runs::{
     Gathered, Gathering, Halt, Listed, Name, Said, Source, Stop, gather_apart, table_of_run,
 };
-use span_table::{Column, Of, Table, TableSum, copies_of};
+use span_table::{Schema, Table, TableSum, copies_of};
 use std::alloc::{AllocError, Global};
 use std::random::RandomSource;
 use std::sync::Wait;
@@ -24,12 +24,11 @@ use std::thread::Threads;
 
 const MOST_JOBS: usize = 64;
 
-/// The tables of one side, in one unit, which sum the same by the same columns; and what is said behind what is printed of them.
+/// The tables of one side, of one schema and in one unit; and what is said behind what is printed of them.
 #[derive(Drop)]
 pub(crate) struct Side {
     pub(crate) unit: Unit,
-    pub(crate) of: Of,
-    pub(crate) columns: Vec<Column>,
+    pub(crate) schema: Schema,
     pub(crate) tables: Vec<Table>,
     pub(crate) said: Said,
     pub(crate) hints: Vec<u8>,
@@ -104,10 +103,9 @@ impl<'a, R: Threads + Wait + RandomSource + Sync, S: Source + Sync> Place<'a, R,
     ) -> Result<Side, AllocError>
         requires { length run.inputs.items ≡ length run.collected.end.ends.items }
         ensures unit { IfOk result (λ side. side.unit ≡ unit) }
-        ensures of { IfOk result (λ side. side.of ≡ options.now.of) }
-        ensures columns { IfOk result (λ side. side.columns.items ≡ columns_of options.now) }
+        ensures schema { IfOk result (λ side. side.schema ≡ summed_of options.now) }
         ensures tables { IfOk result (λ side. side.tables.items
-            ≡ table_of_run options.now.of (columns_of options.now)
+            ≡ table_of_run (summed_of options.now)
             (run_of_files run.inputs.items run.collected.end.ends.items run.collected.ledger.journal)
             ∷ []) }
         ensures lines { IfOk result (λ side. side.said.lines ≡ run.lines) }
@@ -115,22 +113,21 @@ impl<'a, R: Threads + Wait + RandomSource + Sync, S: Source + Sync> Place<'a, R,
             ≡ warnings_of run.inputs.items run.collected.end.ends.items run.collected.ledger.journal) }
         ensures hints { IfOk result (λ side. side.hints ≡ run.hints) }
     {
-        let (alloc, of) = (self.alloc, options.of);
-        let columns = columns_of(self.alloc, options)?;
+        let alloc = self.alloc;
+        let schema = summed_of(alloc, options)?;
         let TogetherRun {
             inputs,
             collected,
             lines,
             hints,
         } = run;
-        let table = table_of_run(self.rt, alloc, of, &columns, &inputs, &collected)?;
+        let table = table_of_run(self.rt, alloc, &schema, &inputs, &collected)?;
         let warnings = warnings_of(alloc, &collected.ledger, &inputs, &collected.end.ends)?;
         drop(inputs);
         self.let_go(collected);
         Ok(Side {
             unit,
-            of,
-            columns,
+            schema,
             tables: only(alloc, table)?,
             said: Said { lines, warnings },
             hints,
@@ -146,7 +143,7 @@ impl<'a, R: Threads + Wait + RandomSource + Sync, S: Source + Sync> Place<'a, R,
     ) -> Result<Side, Halt>
         ensures side { IfOk result (λ side. AreOptions apart.now.settings options.now side
             × AreGathered (S.bytes self.now.source.now) files.now.names.items apart.now.settings
-            (λ runs. shortened files.now.cut (ComeTo false options.now.of (columns_of options.now))
+            (λ runs. shortened files.now.cut (ComeTo false (summed_of options.now))
             runs side.tables.items) side.said) }
         ensures hints { IfOk result (λ side. IsHint side.hints.items) }
         ensures stop { IfErr result
@@ -175,7 +172,7 @@ impl<'a, R: Threads + Wait + RandomSource + Sync, S: Source + Sync> Place<'a, R,
     ) -> Result<Side, Halt>
         ensures side { IfOk result (λ side. AreOptions apart.now.settings options.now side
             × AreGathered (S.bytes self.now.source.now) files.now.names.items apart.now.settings
-            (λ runs. shortened files.now.cut (ComeTo true options.now.of (columns_of options.now))
+            (λ runs. shortened files.now.cut (ComeTo true (summed_of options.now))
             runs side.tables.items) side.said) }
         ensures hints { IfOk result (λ side. IsHint side.hints.items) }
         ensures stop { IfErr result
@@ -197,20 +194,18 @@ impl<'a, R: Threads + Wait + RandomSource + Sync, S: Source + Sync> Place<'a, R,
         said: Said,
     ) -> Result<Side, Halt>
         ensures unit { IfOk result (λ side. side.unit ≡ unit) }
-        ensures of { IfOk result (λ side. side.of ≡ options.now.of) }
-        ensures columns { IfOk result (λ side. side.columns.items ≡ columns_of options.now) }
+        ensures schema { IfOk result (λ side. side.schema ≡ summed_of options.now) }
         ensures tables { IfOk result (λ side. side.tables ≡ tables) }
         ensures said { IfOk result (λ side. side.said ≡ said) }
         ensures hints { IfOk result (λ side. side.hints.items ≡ []) }
         ensures memory { IfErr result (λ halt. halt ≡ Memory) }
     {
-        let Ok(columns) = columns_of(self.alloc, options) else {
+        let Ok(schema) = summed_of(self.alloc, options) else {
             return Err(Halt::Memory);
         };
         Ok(Side {
             unit,
-            of: options.of,
-            columns,
+            schema,
             tables,
             said,
             hints: Vec::new(self.alloc),
@@ -226,9 +221,9 @@ impl<'a, R: Threads + Wait + RandomSource + Sync, S: Source + Sync> Place<'a, R,
     ) -> Result<Gathered<T>, Halt>
         ensures { GathersOrStops (S.bytes self.now.source.now) files.now.names.items
             apart.now.settings
-            (shortened files.now.cut (T.come_to options.now.of (columns_of options.now))) result }
+            (shortened files.now.cut (T.come_to (summed_of options.now))) result }
     {
-        let Ok(columns) = columns_of(self.alloc, options) else {
+        let Ok(schema) = summed_of(self.alloc, options) else {
             return Err(Halt::Memory);
         };
         gather_apart(
@@ -237,30 +232,25 @@ impl<'a, R: Threads + Wait + RandomSource + Sync, S: Source + Sync> Place<'a, R,
             self.source,
             files,
             &apart.settings,
-            options.of,
-            &columns,
+            &schema,
             self.jobs_of(apart.jobs),
         )
     }
 
-    /// The side with its tables narrowed, by the columns that are shown.
+    /// The side with its tables narrowed.
     pub(crate) fn narrowed(&self, options: &TableOptions, side: Side) -> Result<Side, AllocError>
         ensures narrowed { IfOk result (IsNarrowed options.now.narrowing side) }
         ensures hints { IfOk result (λ new. new.hints ≡ side.hints) }
     {
         let narrowing = &options.narrowing;
         let keys = HashKeys::random(self.rt);
-        let shown = side
-            .columns
-            .len()
-            .saturating_sub(narrowing.conditions.len());
-        let columns = copies_of(self.alloc, &side.columns[..shown])?;
+        let schema = shown_schema(self.alloc, narrowing, &side.schema)?;
         let mut tables = Vec::with_capacity(self.alloc, side.tables.len())?;
         for table in side.tables {
             tables.push(narrowed(self.alloc, keys, narrowing, table)?)?;
         }
         Ok(Side {
-            columns,
+            schema,
             tables,
             ..side
         })

@@ -1,24 +1,22 @@
 //! The tables that a text is made of: those of one side, or of two.
 ghost use Rattle.std.specs.Prelude.{IfErr, IfOk};
-ghost use Rattle.span_tasks.specs.{AreGathered, IsHint, shortened, OfStop, StopsAmong, Sides.{AreBothGathered, AreOptions, AreSides, ComeTo, IsGathered, IsOneSide, StopSides, StopsOneSide}, Summed.columns_of};
+ghost use Rattle.span_tasks.specs.{AreGathered, IsHint, shortened, OfStop, StopsAmong, Sides.{AreBothGathered, AreOptions, AreSides, ComeTo, IsGathered, IsOneSide, StopSides, StopsOneSide}, Summed.summed_of};
 
 use crate::place::Place;
 use crate::side::{Apart, Side};
 use span_collect::Settings;
 use span_request::{Items, TableOptions};
 use span_runs::{Halt, Listed, Source};
-use span_table::Number;
 use std::random::RandomSource;
 use std::sync::Wait;
 use std::thread::Threads;
 
-/// What tables are gathered: of what, in how many jobs, by what, with which number, and whether a table of each is wanted or one of all.
+/// What tables are gathered: of what, in how many jobs, by what, and whether a table of each is wanted or one of all.
 #[derive(Clone, Copy)]
 pub(crate) struct Wanted<'a> {
     pub(crate) items: Items,
     pub(crate) jobs: Option<u32>,
     pub(crate) options: &'a TableOptions,
-    pub(crate) by: Option<Number>,
     pub(crate) each: bool,
 }
 
@@ -33,10 +31,10 @@ impl<'a, R: Threads + Wait + RandomSource + Sync, S: Source + Sync> Place<'a, R,
     /// The tables of what is named.
     pub(crate) fn one_side(&self, wanted: Wanted, files: &Listed) -> Result<Side, Halt>
         ensures side { IfOk result (IsOneSide (S.bytes self.now.source.now) wanted.entry.items
-            wanted.entry.options.now wanted.entry.by wanted.entry.each files.now) }
+            wanted.entry.options.now wanted.entry.each files.now) }
         ensures hints { IfOk result (λ side. IsHint side.hints.items) }
         ensures stop { IfErr result (OfStop (StopsOneSide (S.bytes self.now.source.now) wanted.entry.items
-            wanted.entry.options.now wanted.entry.by wanted.entry.each files.now.names.items)) }
+            wanted.entry.options.now wanted.entry.each files.now.names.items)) }
     {
         let side = match self.gathered_side(wanted, files) {
             Ok(side) => side,
@@ -51,10 +49,10 @@ impl<'a, R: Threads + Wait + RandomSource + Sync, S: Source + Sync> Place<'a, R,
     // The tables of what is named, as they are gathered.
     fn gathered_side(&self, wanted: Wanted, files: &Listed) -> Result<Side, Halt>
         ensures side { IfOk result (IsGathered (S.bytes self.now.source.now) wanted.entry.items
-            wanted.entry.options.now wanted.entry.by wanted.entry.each files.now) }
+            wanted.entry.options.now wanted.entry.each files.now) }
         ensures hints { IfOk result (λ side. IsHint side.hints.items) }
         ensures stop { IfErr result (OfStop (StopsOneSide (S.bytes self.now.source.now) wanted.entry.items
-            wanted.entry.options.now wanted.entry.by wanted.entry.each files.now.names.items)) }
+            wanted.entry.options.now wanted.entry.each files.now.names.items)) }
     {
         match wanted.items {
             Items::Together(settings) => match self.run_side(
@@ -80,8 +78,8 @@ impl<'a, R: Threads + Wait + RandomSource + Sync, S: Source + Sync> Place<'a, R,
     fn apart_side(&self, settings: Settings, wanted: Wanted, files: &Listed) -> Result<Side, Halt>
         ensures side { IfOk result (λ side. AreOptions settings wanted.entry.options.now side
             × AreGathered (S.bytes self.now.source.now) files.now.names.items settings
-            (λ runs. shortened files.now.cut (ComeTo wanted.entry.each wanted.entry.options.now.of
-            (columns_of wanted.entry.options.now)) runs side.tables.items) side.said) }
+            (λ runs. shortened files.now.cut (ComeTo wanted.entry.each
+            (summed_of wanted.entry.options.now)) runs side.tables.items) side.said) }
         ensures hints { IfOk result (λ side. IsHint side.hints.items) }
         ensures stop { IfErr result
             (OfStop (StopsAmong (S.bytes self.now.source.now) settings files.now.names.items)) }
@@ -104,11 +102,11 @@ impl<'a, R: Threads + Wait + RandomSource + Sync, S: Source + Sync> Place<'a, R,
         files: &Listed,
     ) -> Result<Sides, Halt>
         ensures sides { IfOk result (λ sides. AreSides (S.bytes self.now.source.now) wanted.entry.items
-            wanted.entry.options.now wanted.entry.by wanted.entry.each base.now files.now sides.base sides.other) }
+            wanted.entry.options.now wanted.entry.each base.now files.now sides.base sides.other) }
         ensures base_hints { IfOk result (λ sides. IsHint sides.base.hints.items) }
         ensures hints { IfOk result (λ sides. IsHint sides.other.hints.items) }
         ensures stop { IfErr result (OfStop (StopSides (S.bytes self.now.source.now) wanted.entry.items
-            wanted.entry.options.now wanted.entry.by wanted.entry.each base.now files.now)) }
+            wanted.entry.options.now wanted.entry.each base.now files.now)) }
     {
         let Sides { base, other } = match self.gathered_sides(wanted, base, files) {
             Ok(sides) => sides,
@@ -126,11 +124,11 @@ impl<'a, R: Threads + Wait + RandomSource + Sync, S: Source + Sync> Place<'a, R,
     // Both sides as they are gathered.
     fn gathered_sides(&self, wanted: Wanted, base: &Listed, files: &Listed) -> Result<Sides, Halt>
         ensures sides { IfOk result (λ sides. AreBothGathered (S.bytes self.now.source.now) wanted.entry.items
-            wanted.entry.options.now wanted.entry.by wanted.entry.each base.now files.now sides.base sides.other) }
+            wanted.entry.options.now wanted.entry.each base.now files.now sides.base sides.other) }
         ensures base_hints { IfOk result (λ sides. IsHint sides.base.hints.items) }
         ensures hints { IfOk result (λ sides. IsHint sides.other.hints.items) }
         ensures stop { IfErr result (OfStop (StopSides (S.bytes self.now.source.now) wanted.entry.items
-            wanted.entry.options.now wanted.entry.by wanted.entry.each base.now files.now)) }
+            wanted.entry.options.now wanted.entry.each base.now files.now)) }
     {
         if let Items::Printed = wanted.items {
             return self.printed_sides(wanted, base, files);

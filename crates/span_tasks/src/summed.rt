@@ -1,20 +1,40 @@
-//! By which columns a table is summed before it is narrowed.
+//! The schemas by which tables are gathered, and what conditions test.
 ghost use Rattle.std.specs.Prelude.{◌≡◌, IfOk};
-ghost use Rattle.span_tasks.specs.Summed.{columns_of, tested_in};
+ghost use Rattle.span_tasks.specs.{shown_schema, Summed.{summed_of, tested_in}};
 
-use span_narrowing::summed_by;
+use span_narrowing::{Narrowing, summed_by};
 use span_request::TableOptions;
-use span_table::Column;
+use span_table::{Audience, Column, Schema};
 use std::alloc::{AllocError, Global};
 
-/// Those that are shown, and behind them those that conditions test.
-pub(crate) fn columns_of(alloc: Global, options: &TableOptions) -> Result<Vec<Column>, AllocError>
-    ensures { IfOk result (λ columns. columns.items ≡ columns_of options.now) }
+/// That of the table of runs before it is narrowed: the columns that are shown, and behind them those that conditions test.
+pub(crate) fn summed_of(alloc: Global, options: &TableOptions) -> Result<Schema, AllocError>
+    ensures { IfOk result (λ schema. schema ≡ summed_of options.now) }
 {
-    summed_by(alloc, &options.columns, &options.narrowing)
+    let of = options.of;
+    Ok(Schema {
+        of,
+        columns: summed_by(alloc, &options.columns, &options.narrowing)?,
+        numbers: options
+            .numbers
+            .shown(alloc, of, of.numbers(Audience::Programs))?,
+    })
 }
 
-/// Those that conditions test.
+/// That of a table of this one once it is narrowed: without the columns that conditions test.
+pub(crate) fn shown_schema(
+    alloc: Global,
+    narrowing: &Narrowing,
+    schema: &Schema,
+) -> Result<Schema, AllocError>
+    ensures { IfOk result (λ shown. shown ≡ shown_schema narrowing.now schema.now) }
+{
+    let columns = schema.columns.as_slice();
+    let shown = columns.len().saturating_sub(narrowing.conditions.len());
+    Schema::new(alloc, schema.of, &columns[..shown], &schema.numbers)
+}
+
+/// The columns that conditions test.
 pub(crate) fn tested_in(alloc: Global, options: &TableOptions) -> Result<Vec<Column>, AllocError>
     ensures { IfOk result (λ columns. columns.items ≡ tested_in options.now) }
 {

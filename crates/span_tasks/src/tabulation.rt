@@ -59,7 +59,6 @@ impl<'a, R: Threads + Wait + RandomSource + Sync, S: Source + Sync> Place<'a, R,
             items: task.items,
             jobs: task.jobs,
             options: &task.options,
-            by: form.by(),
             each: false,
         };
         let side = match self.one_side(wanted, files) {
@@ -96,7 +95,6 @@ impl<'a, R: Threads + Wait + RandomSource + Sync, S: Source + Sync> Place<'a, R,
             items: task.items,
             jobs: task.jobs,
             options: &task.options,
-            by: asked.form.by(),
             each: false,
         };
         let sides = match self.both_sides(wanted, base, files) {
@@ -136,7 +134,6 @@ impl<'a, R: Threads + Wait + RandomSource + Sync, S: Source + Sync> Place<'a, R,
             items: task.items,
             jobs: task.jobs,
             options: &task.options,
-            by: asked.by,
             each: true,
         };
         let sides = match self.both_sides(wanted, base, files) {
@@ -168,12 +165,12 @@ impl<'a, R: Threads + Wait + RandomSource + Sync, S: Source + Sync> Place<'a, R,
         ensures text { IfOk result (λ print. print.text ≡ text) }
         ensures lines { IfOk result (λ print. print.lines.items ≡ side.said.lines.items) }
         ensures warnings { IfOk result (λ print. print.warnings.items
-            ≡ warned_of items side.columns.items side.tables.items side.said.warnings.items) }
+            ≡ warned_of items side.schema.columns side.tables.items side.said.warnings.items) }
         ensures hints { IfOk result (λ print. IsHint print.hints.items) }
         ensures memory { IfErr result (λ halt. halt ≡ Memory) }
     {
         let tabled = Tabled {
-            columns: &side.columns,
+            columns: &side.schema.columns,
             tables: &side.tables,
             more: &[],
         };
@@ -216,7 +213,7 @@ impl<'a, R: Threads + Wait + RandomSource + Sync, S: Source + Sync> Place<'a, R,
     {
         let Sides { base, other } = sides;
         let Side {
-            columns,
+            schema,
             tables,
             said,
             hints,
@@ -226,7 +223,7 @@ impl<'a, R: Threads + Wait + RandomSource + Sync, S: Source + Sync> Place<'a, R,
             return Err(Halt::Memory);
         };
         let tabled = Tabled {
-            columns: &columns,
+            columns: &schema.columns,
             tables: &tables,
             more: &other.tables,
         };
@@ -283,7 +280,7 @@ fn only_table(side: &Side) -> Option<&Table>
 fn texts_of(alloc: Global, task: &Tabulation, unit: Unit) -> TableTexts<'_>
     ensures unit { result.unit ≡ unit }
     ensures runs { result.says_runs ≡ says_runs task.now.items }
-    ensures shown { result.shown.now ≡ task.now.options.shown }
+    ensures options { result.options.now ≡ task.now.options }
 {
     let says_runs = match task.items {
         Items::Together(_) => false,
@@ -293,7 +290,7 @@ fn texts_of(alloc: Global, task: &Tabulation, unit: Unit) -> TableTexts<'_>
         alloc,
         unit,
         says_runs,
-        shown: &task.options.shown,
+        options: &task.options,
     }
 }
 
@@ -305,7 +302,7 @@ fn text_of_side(
 ) -> Result<Vec<u8>, Halt>
     ensures text { IfOk result (λ text. (table : SpanTable)
         × (side.now.tables.items ≡ table ∷ []) × IsTableText side.now.unit form
-        task.now.options.shown (says_runs task.now.items) table text.items) }
+        task.now.options (says_runs task.now.items) table text.items) }
     ensures stop { IfErr result (OfStop (λ lines. (table : SpanTable)
         × (side.now.tables.items ≡ table ∷ []) × TableExceeds form task.now.options.shown table
         × (lines ≡ run_line (number_of TooGreatFault)))) }
@@ -324,12 +321,12 @@ fn text_of_changes(
 ) -> Result<Vec<u8>, Halt>
     ensures text { IfOk result (λ text. (base other : SpanTable)
         × (sides.now.base.tables.items ≡ base ∷ []) × (sides.now.other.tables.items ≡ other ∷ [])
-        × (changes_fit form task.now.options.shown base other ≡ true)
-        × (text.items ≡ changes_text sides.now.base.unit form task.now.options.shown
+        × (changes_fit form task.now.options base other ≡ true)
+        × (text.items ≡ changes_text sides.now.base.unit form task.now.options
         (says_runs task.now.items) base other)) }
     ensures stop { IfErr result (OfStop (λ lines. (base other : SpanTable)
         × (sides.now.base.tables.items ≡ base ∷ []) × (sides.now.other.tables.items ≡ other ∷ [])
-        × (changes_fit form task.now.options.shown base other ≡ false)
+        × (changes_fit form task.now.options base other ≡ false)
         × (lines ≡ run_line (number_of TooGreatFault)))) }
 {
     let (Some(base), Some(other)) = (only_table(&sides.base), only_table(&sides.other)) else {

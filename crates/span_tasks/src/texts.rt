@@ -2,47 +2,49 @@
 ghost use Rattle.std.specs.Prelude.{◌≡◌, true, false, string_bytes, IfOk, IfErr};
 ghost use Rattle.span_page.specs.declared.fault.PageFault.TheVariants.{TooLarge};
 ghost use Rattle.span_table_text.specs.declared.json_lines.JsonFault.TheVariants.{TooGreat};
-ghost use Rattle.span_tasks.specs.{OfStop, PageTooLargeFault, TooGreatFault, number_of, run_line, Texts.{IsTableText, TableExceeds, asked_by, changes_fit, changes_text, repeats_fit, repeats_text}};
+ghost use Rattle.span_tasks.specs.{OfStop, PageTooLargeFault, TooGreatFault, leading_number, number_of, run_line, Texts.{IsTableText, TableExceeds, changes_fit, changes_text, repeats_fit, repeats_text}};
 
 use crate::side::Side;
 use span_comparisons::{Comparing, comparison, json_comparison, json_repeats, repeats};
 use span_event::{Fault, Unit};
 use span_page::PageFault;
-use span_request::{ComparisonForm, RepeatsForm, Repetitions, TableForm};
+use span_request::{ComparisonForm, RepeatsForm, Repetitions, TableForm, TableOptions};
 use span_runs::Halt;
-use span_table::{Number, Of, Table};
-use span_table_text::{JsonFault, Shown, json_table, ranking};
+use span_table::{Schema, Table};
+use span_table_text::{JsonFault, json_table, ranking};
 use std::alloc::{AllocError, Global};
 
-/// How tables are printed: their times are in this unit, their heads say how many runs there are or don't, and these rows are shown.
+/// How tables are printed: their times are in this unit, their heads say how many runs there are or don't, and what is shown of them is
+/// what is asked for.
 #[derive(Clone, Copy)]
 pub(crate) struct TableTexts<'a> {
     pub(crate) alloc: Global,
     pub(crate) unit: Unit,
     pub(crate) says_runs: bool,
-    pub(crate) shown: &'a Shown,
+    pub(crate) options: &'a TableOptions,
 }
 
 impl<'a> TableTexts<'a> {
     /// The text of a table.
     pub(crate) fn table(&self, form: TableForm, table: &Table) -> Result<Vec<u8>, Halt>
-        ensures text { IfOk result (λ text. IsTableText self.now.unit form self.now.shown.now
+        ensures text { IfOk result (λ text. IsTableText self.now.unit form self.now.options.now
             self.now.says_runs table.now text.items) }
-        ensures stop { IfErr result (OfStop (λ lines. TableExceeds form self.now.shown.now table.now
+        ensures stop { IfErr result (OfStop (λ lines. TableExceeds form self.now.options.now.shown table.now
             × (lines ≡ run_line (number_of TooGreatFault)))) }
     {
+        let (alloc, unit, options) = (self.alloc, self.unit, self.options);
+        let shown = &options.shown;
         match form {
-            TableForm::Ranking { most, by } => {
-                let by = asked_by(table.kind(), by);
-                let (alloc, unit, says_runs) = (self.alloc, self.unit, self.says_runs);
-                match ranking(alloc, unit, table, self.shown, most, by, says_runs) {
+            TableForm::Ranking { most } => {
+                let by = options.numbers.leading(table.schema());
+                match ranking(alloc, unit, table, shown, most, by, self.says_runs) {
                     Ok(text) => Ok(text),
                     Err(_) => Err(Halt::Memory),
                 }
             }
-            TableForm::Json => match json_table(self.alloc, self.unit, table, self.shown) {
+            TableForm::Json => match json_table(alloc, unit, table, shown) {
                 Ok(text) => Ok(text),
-                Err(fault) => Err(halt_of_text(self.alloc, fault)),
+                Err(fault) => Err(halt_of_text(alloc, fault)),
             },
         }
     }
@@ -55,23 +57,24 @@ impl<'a> TableTexts<'a> {
         other: &Table,
     ) -> Result<Vec<u8>, Halt>
         ensures text { IfOk result (λ text. text.items ≡ changes_text self.now.unit form
-            self.now.shown.now self.now.says_runs base.now other.now) }
+            self.now.options.now self.now.says_runs base.now other.now) }
         ensures fits { IfOk result (λ text.
-            changes_fit form self.now.shown.now base.now other.now ≡ true) }
+            changes_fit form self.now.options.now base.now other.now ≡ true) }
         ensures stop { IfErr result (OfStop (λ lines.
-            (changes_fit form self.now.shown.now base.now other.now ≡ false)
+            (changes_fit form self.now.options.now base.now other.now ≡ false)
             × (lines ≡ run_line (number_of TooGreatFault)))) }
     {
         match form {
-            ComparisonForm::Text { most, by } => {
-                let asked = self.comparing(asked_by(other.kind(), by), most);
+            ComparisonForm::Text { most } => {
+                let asked = self.comparing(other.schema(), most);
                 match comparison(self.alloc, base, other, &asked, self.says_runs) {
                     Ok(text) => Ok(text),
                     Err(_) => Err(Halt::Memory),
                 }
             }
             ComparisonForm::Json => {
-                match json_comparison(self.alloc, self.unit, base, other, self.shown) {
+                let asked = self.comparing(other.schema(), None);
+                match json_comparison(self.alloc, base, other, &asked) {
                     Ok(text) => Ok(text),
                     Err(fault) => Err(halt_of_text(self.alloc, fault)),
                 }
@@ -87,30 +90,26 @@ impl<'a> TableTexts<'a> {
         other: &Side,
     ) -> Result<Vec<u8>, Halt>
         ensures text { IfOk result (λ text. text.items
-            ≡ repeats_text self.now.unit base.now.of base.now.columns.items asked.now.by
-            asked.now.form self.now.shown.now base.now.tables.items other.now.tables.items) }
-        ensures fits { IfOk result (λ text. repeats_fit base.now.of asked.now.by asked.now.form
-            self.now.shown.now base.now.tables.items other.now.tables.items ≡ true) }
+            ≡ repeats_text self.now.unit base.now.schema asked.now.form self.now.options.now base.now.tables.items other.now.tables.items) }
+        ensures fits { IfOk result (λ text. repeats_fit base.now.schema asked.now.form
+            self.now.options.now base.now.tables.items other.now.tables.items ≡ true) }
         ensures stop { IfErr result (OfStop (λ lines.
-            (repeats_fit base.now.of asked.now.by asked.now.form self.now.shown.now
+            (repeats_fit base.now.schema asked.now.form self.now.options.now
             base.now.tables.items other.now.tables.items ≡ false)
             × (lines ≡ run_line (number_of TooGreatFault)))) }
     {
-        let alloc = self.alloc;
-        let by = asked_by(base.of, asked.by);
-        let columns = &base.columns;
+        let (alloc, schema) = (self.alloc, &base.schema);
         match asked.form {
             RepeatsForm::Text { most } => {
-                let asked = self.comparing(by, most);
-                match repeats(alloc, columns, &base.tables, &other.tables, &asked) {
+                let asked = self.comparing(schema, most);
+                match repeats(alloc, &schema.columns, &base.tables, &other.tables, &asked) {
                     Ok(text) => Ok(text),
                     Err(_) => Err(Halt::Memory),
                 }
             }
             RepeatsForm::Json => {
-                let asked = self.comparing(by, None);
-                let (of, tables, others) = (base.of, &base.tables, &other.tables);
-                match json_repeats(alloc, of, columns, tables, others, &asked) {
+                let asked = self.comparing(schema, None);
+                match json_repeats(alloc, schema, &base.tables, &other.tables, &asked) {
                     Ok(text) => Ok(text),
                     Err(fault) => Err(halt_of_text(alloc, fault)),
                 }
@@ -118,28 +117,19 @@ impl<'a> TableTexts<'a> {
         }
     }
 
-    fn comparing(&self, by: Number, most: Option<u32>) -> Comparing<'a>
+    // How tables of this schema are compared.
+    fn comparing(&self, schema: &Schema, most: Option<u32>) -> Comparing<'a>
         ensures unit { result.unit ≡ self.now.unit }
-        ensures by { result.by ≡ by }
-        ensures shown { result.shown ≡ self.now.shown }
+        ensures by { result.by ≡ leading_number self.now.options.now.numbers schema.now }
+        ensures shown { result.shown.now ≡ self.now.options.now.shown }
         ensures most { result.most ≡ most }
     {
         Comparing {
             unit: self.unit,
-            by,
-            shown: self.shown,
+            by: self.options.numbers.leading(schema),
+            shown: &self.options.shown,
             most,
         }
-    }
-}
-
-// The number that rows go by: the named one, or the usual one of what a table sums.
-fn asked_by(of: Of, by: Option<Number>) -> Number
-    ensures { result ≡ asked_by of by }
-{
-    match by {
-        Some(by) => by,
-        None => of.by(),
     }
 }
 

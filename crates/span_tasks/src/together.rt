@@ -1,13 +1,13 @@
 //! What is named, collected as one run, and what is printed of it.
 ghost use Rattle.std.specs.Prelude.{◌≡◌, length, Contains, IfErr, IfOk};
-ghost use Rattle.span_tasks.specs.{Name as TheName, AreInputs, IsHint, OfStop, StacksFault as StacksTooLarge, number_of, fault_text, printed, run_line, run_code, unread_line, Outcome.PrintsOrStops, narrowed, run_of_files, table_of_run, Summed.columns_of, Together.{Collects, EndsWell, Exceeds, Fits, StopsCollecting, StopsTogether, text_of, warned_if, warned_of_view}};
+ghost use Rattle.span_tasks.specs.{Name as TheName, AreInputs, IsHint, OfStop, StacksFault as StacksTooLarge, number_of, fault_text, printed, run_line, run_code, unread_line, Outcome.PrintsOrStops, narrowed, run_of_files, table_of_run, Summed.summed_of, Together.{Collects, EndsWell, Exceeds, Fits, StopsCollecting, StopsTogether, text_of, warned_if, warned_of_view}};
 ghost use Rattle.span_runs.specs.declared.stop.Halt.TheVariants.{Memory as OutOfMemory};
 ghost use Rattle.span_report.specs.declared.stacks.fault.StacksFault.TheVariants.{TooLarge};
 ghost use Rattle.span_request.specs.declared.views.View.TheVariants.{Page as OfPage};
 
 use crate::outcome::Print;
 use crate::place::Place;
-use crate::summed::columns_of;
+use crate::summed::summed_of;
 use crate::texts::{TableTexts, halt_of_page, string_of};
 use crate::warnings::warned_of_page;
 use span_collect::refusals::{refusals, warnings_of};
@@ -215,7 +215,7 @@ impl<'a, R: Threads + Wait + RandomSource + Sync, S: Source + Sync> Place<'a, R,
             alloc,
             unit,
             says_runs: false,
-            shown: &options.shown,
+            options,
         };
         let text = match texts.table(TableForm::Json, &table) {
             Ok(text) => text,
@@ -241,11 +241,11 @@ impl<'a, R: Threads + Wait + RandomSource + Sync, S: Source + Sync> Place<'a, R,
     ) -> Result<Table, AllocError>
         requires { length files.now ≡ length collected.now.end.ends.items }
         ensures { IfOk result (λ table. table ≡ narrowed options.now.narrowing
-            (table_of_run options.now.of (columns_of options.now)
+            (table_of_run (summed_of options.now)
             (run_of_files files.now collected.now.end.ends.items collected.now.ledger.journal))) }
     {
-        let columns = columns_of(self.alloc, options)?;
-        let all = table_of_run(self.rt, self.alloc, options.of, &columns, files, collected)?;
+        let schema = summed_of(self.alloc, options)?;
+        let all = table_of_run(self.rt, self.alloc, &schema, files, collected)?;
         let keys = HashKeys::random(self.rt);
         narrowed(self.alloc, keys, &options.narrowing, all)
     }

@@ -11,7 +11,7 @@ returns-in-Ok-before g c =
       base_hints = tt;
       hints = tt;
       stop = (
-        StopSides-runs (g.S.Source.bytes c.args.self.now.source.now) wanted.options.now wanted.by wanted.each wanted.items c.args.base.now c.args.files.now c.in-Ok.base c.in-Err-Stopped.stop.lines.items c.in-Ok-before.stop.lines.items
+        StopSides-runs (g.S.Source.bytes c.args.self.now.source.now) wanted.options.now wanted.each wanted.items c.args.base.now c.args.files.now c.in-Ok.base c.in-Err-Stopped.stop.lines.items c.in-Ok-before.stop.lines.items
             c.in_default.not-Printed c.in-Ok.ensures.side stop.0 c.in-Ok-before.ensures.lines,
         c.in-Ok-before.ensures.hints,
       );

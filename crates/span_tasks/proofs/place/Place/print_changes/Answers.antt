@@ -11,7 +11,7 @@ returns-in-Err-text_of_changes g c =
         record {
           base = sides.base;
           other = sides.other;
-          are = rw c.by.ensures at c.in-Ok.ensures.sides;
+          are = c.in-Ok.ensures.sides;
           earlier = exceeds.0;
           later = exceeds.1;
           only_base = exceeds.2;
@@ -33,7 +33,7 @@ returns-in-Ok-print_of_sides g c =
         both = record {
           base = sides.base;
           other = sides.other;
-          are = rw c.by.ensures at c.in-Ok.ensures.sides;
+          are = c.in-Ok.ensures.sides;
           earlier = text.0;
           later = text.1;
           only_base = text.2;

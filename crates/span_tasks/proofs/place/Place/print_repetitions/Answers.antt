@@ -17,7 +17,7 @@ returns-in-Err-repetitions g c =
         exceeds.0,
       ),
       exceeds.1,
-    )) c.in-Err-repetitions.halt (rw c.texts_of-texts.ensures.shown at c.in-Err-repetitions.ensures.stop)
+    )) c.in-Err-repetitions.halt (rw c.texts_of-texts.ensures.options at c.in-Err-repetitions.ensures.stop)
 
 -- how numbers are spread is printed
 pub returns-in-Ok-print_of_sides : goal.returns-in-Ok-print_of_sides
@@ -28,8 +28,8 @@ returns-in-Ok-print_of_sides g c =
       print.hints,
       record {
         repeated = record { few = few; base = c.in-Ok.sides.base; other = c.in-Ok.sides.other; are = c.in-Ok.ensures.sides };
-        fits = rw texts.shown at c.in-Ok-repetitions.ensures.fits;
-        is = ap (λ bytes. bytes.items) print.text ∙ (rw (texts.unit, texts.shown) at c.in-Ok-repetitions.ensures.text);
+        fits = rw texts.options at c.in-Ok-repetitions.ensures.fits;
+        is = ap (λ bytes. bytes.items) print.text ∙ (rw (texts.unit, texts.options) at c.in-Ok-repetitions.ensures.text);
         said = print.lines;
         warned = print.warnings;
       },

@@ -5,7 +5,7 @@ use Rattle.span_tasks.proofs.place.Place.print_table.Goals as goal
 -- a number is too great
 pub returns-in-Err-text_of_side : goal.returns-in-Err-text_of_side
 returns-in-Err-text_of_side g c =
-    OfStop-weaker _ _ (λ lines exceeds. inr ((record { side = c.in-Ok.side; is = rw c.by.ensures at c.in-Ok.ensures.side; table = exceeds.0; only = exceeds.1 }, exceeds.2), exceeds.3)) c.in-Err-text_of_side.halt c.in-Err-text_of_side.ensures.stop
+    OfStop-weaker _ _ (λ lines exceeds. inr ((record { side = c.in-Ok.side; is = c.in-Ok.ensures.side; table = exceeds.0; only = exceeds.1 }, exceeds.2), exceeds.3)) c.in-Err-text_of_side.halt c.in-Err-text_of_side.ensures.stop
 
 -- the table is printed
 pub returns-in-Ok-print_of_side : goal.returns-in-Ok-print_of_side
@@ -15,7 +15,7 @@ returns-in-Ok-print_of_side g c =
       print.hints,
       record {
         made = record {
-          one = record { side = c.in-Ok.side; is = rw c.by.ensures at c.in-Ok.ensures.side; table = text.0; only = text.1 };
+          one = record { side = c.in-Ok.side; is = c.in-Ok.ensures.side; table = text.0; only = text.1 };
           is = rw print.text text.2;
         };
         said = print.lines;

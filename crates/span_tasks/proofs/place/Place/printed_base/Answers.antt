@@ -1,6 +1,6 @@
 use Rattle.std.proofs.Common.{◌∷◌, inl, inr, ap, sym, subst, ◌∙◌}
 use Rattle.span_runs.proofs.Stopping.{OfStop-weaker}
-use Rattle.span_tasks.specs.{Of, goes_by, Added.AreOfFirst, Sides.AddTo, Summed.tested_in}
+use Rattle.span_tasks.specs.{Added.AreOfFirst, Sides.AddTo, Summed.asked_of}
 use Rattle.span_tasks.proofs.Adding.{AddTo-kind, Chooses-same, IsOfKind-beside, IsOfKind-first}
 use Rattle.span_tasks.proofs.place.Place.printed_base.Goals as goal
 
@@ -13,7 +13,7 @@ pub returns-in-Err-tables_from-clause-stop : goal.returns-in-Err-tables_from-cla
 returns-in-Err-tables_from-clause-stop g c =
     let source = (g.S.Source.bytes c.args.self.now.source.now) in
     let name = c.in-Some.name.now in
-    let kind : AreOfFirst source c.args.wanted.options.now c.args.wanted.by (name ∷ c.in-Some.later.now) c.in-Ok.first = (c.in-Ok.ensures.asked, IsOfKind-first source name c.in-Ok.first c.in-Ok.ensures.first) in
+    let kind : AreOfFirst source c.args.wanted.options.now (name ∷ c.in-Some.later.now) c.in-Ok.first = (c.in-Ok.ensures.asked, IsOfKind-first source name c.in-Ok.first c.in-Ok.ensures.first) in
     rw c.in-Some.ensures.cases.0 (OfStop-weaker _ _ (λ lines stops. inr (c.in-Ok.first, kind, inl (stops name c.in-Ok.ensures.first))) c.in-Err-tables_from.halt c.in-Err-tables_from.ensures.stop)
 
 -- the tables are of the kind of the first
@@ -28,11 +28,11 @@ returns-in-Ok-side_of_kind-clause-base g c =
     let tables = AddTo-kind source c.args.wanted.each first kind c.args.names.now c.in-Ok-tables_from.tables.items takes (rw c.in-Some.ensures.cases.0 (c.in-Ok-tables_from.ensures.tables c.in-Some.name.now c.in-Ok.ensures.first)) in
     record {
       asked = rw c.in-Some.ensures.cases.0 (
-        record { chooses = Chooses-same c.args.wanted.options.now.columns.items (tested_in c.args.wanted.options.now) first kind takes.columns takes.places asked.chooses; number = ap (λ (of : Of). goes_by of c.args.wanted.by) takes.of ∙ asked.number },
+        Chooses-same (asked_of c.args.wanted.options.now) first kind takes.schema takes.choice asked,
         IsOfKind-beside source c.in-Some.name.now first kind takes (IsOfKind-first source c.in-Some.name.now first c.in-Ok.ensures.first),
       );
       is = (
-        record { unit = side.unit; of = side.of; columns = side.columns ∙ ap (λ table. table.columns) takes.sums.adds },
+        record { unit = side.unit; schema = side.schema ∙ ap (λ table. table.schema) takes.sums.adds },
         subst (λ ts. AddTo c.args.wanted.each source kind c.args.names.now ts.items) (sym side.tables) tables,
         side.lines,
       );

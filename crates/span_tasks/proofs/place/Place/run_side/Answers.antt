@@ -1,6 +1,6 @@
 use Rattle.std.proofs.{Common.{[], ◌∷◌, ap, sym, subst, ◌∙◌}, lemmas.Slice.Zip.AllZip-long}
 use Rattle.span_runs.proofs.InTurn.{table_of_run-in_turn}
-use Rattle.span_tasks.specs.{IsHint, Summed.columns_of}
+use Rattle.span_tasks.specs.{IsHint, Summed.summed_of}
 use Rattle.span_tasks.proofs.place.Place.run_side.Goals as goal
 
 -- there is one end for each file
@@ -16,14 +16,14 @@ returns-in-Ok-side_of_run-clause-side g c =
     let ended = c.in-Ok.ensures.run in
     let options = c.args.options.now in
     let side = c.in-Ok-side_of_run.ensures in (
-      record { unit = side.unit; of = side.of; columns = side.columns },
+      record { unit = side.unit; schema = side.schema },
       record {
         run = run;
         ended = ended;
         is = side.tables;
         in_turn = λ separate. side.tables ∙ ap (λ table. table ∷ [])
             (table_of_run-in_turn run.inputs.items c.args.settings.now run.collected.end.ends.items run.collected.end.asked run.collected.end.sealing run.collected.ledger.journal
-            ended.is.account separate (rw ended.is.status at ended.below) options.of (columns_of options));
+            ended.is.account separate (rw ended.is.status at ended.below) (summed_of options));
         said = ap (λ lines. lines.items) side.lines;
         warned = side.warnings;
       },
