@@ -2,8 +2,9 @@
 #![tactic(auto)]
 
 use span_tasks::{
-    Column, DEFAULT_SETTINGS, Files, Items, LinesTo, Named, Narrowing, Number, Of, Place, Request,
-    Session, Shown, TableForm, TableOptions, TableText, Tabulation, Task, Text, Unwatched, Writer,
+    AskedNumbers, Audience, Column, DEFAULT_SETTINGS, Files, Items, LinesTo, Named, Narrowing,
+    Number, Of, Place, Request, Session, Shown, TableForm, TableOptions, TableText, Tabulation,
+    Task, Text, Unwatched, Writer,
 };
 use std::alloc::{AllocError, Global};
 use std::process::ExitCode;
@@ -14,18 +15,22 @@ fn request_of(alloc: Global, given: Vec<Text>) -> Result<Request, AllocError> {
     let options = TableOptions {
         of: Of::Spans,
         columns: Vec::from_array(alloc, [Column::Name])?,
+        numbers: AskedNumbers {
+            audience: Audience::People,
+            named: Vec::new(alloc),
+            by: Some(Number::Total),
+        },
         narrowing: Narrowing {
             conditions: Vec::new(alloc),
             merges: false,
         },
         shown: Shown { only, skip },
     };
-    let by = Some(Number::Total);
     let task = Task::Tabulate(Tabulation {
         items: Items::Apart(DEFAULT_SETTINGS),
         jobs: None,
         options,
-        text: TableText::Table(TableForm::Ranking { most: 10, by }),
+        text: TableText::Table(TableForm::Ranking { most: 10 }),
     });
     let files = Named { given, list: None };
     Ok(Request::Run { task, files })
