@@ -122,7 +122,7 @@ def check_head(page):
 def check_all_files(page):
     """What two files have of one process stands apart wherever it isn't summed."""
     expect("rows of all files", page.rows("#names"), BY_SELF)
-    expect("what rows are sums of", "Rows are sums over all files" in page.text("#names-title + .hint"), True)
+    expect("what rows are of", "Rows are of all files together" in page.text("#names-title + .hint"), True)
     expect("files to choose", options(page, "file"), ["all files", "one.json", "cut.json", "two.json"])
     expect("processes to choose", options(page, "process"), ["all processes", "app (7) in one.json", "tool (7) in two.json", "8 in two.json"])
     expect("threads to choose", options(page, "thread"), ["all threads", "worker (3) in two.json", "main (1) in one.json", "2 in one.json",
@@ -300,7 +300,7 @@ def try_summed(driver, program, folder):
 def check_rows_by_file(page):
     """Rows with the column file, sorted by it, from a click to the address and back."""
     expect("titles with files", page.titles("#names"), ["name", "self, \u00b5s", "of busy", "total, \u00b5s", "count", "file"])
-    expect("whether rows are said to be sums", "Rows are sums" in page.text("#names-title + .hint"), False)
+    expect("whether rows are said to be of all files", "all files together" in page.text("#names-title + .hint"), False)
     expect("rows with files", page.rows("#names"), [ALPHA_B, ALPHA_A, BETA_B, BETA_A])
     page.click("#names th:nth-child(6) button")
     expect("rows by file", page.rows("#names"), [ALPHA_A, BETA_A, ALPHA_B, BETA_B])

@@ -171,7 +171,7 @@ def try_files(driver, program, folder):
     put_traces(folder, {"one.json": [span(7, 1, "alpha", 0, 100.5), span(7, 1, "text", 0, "5")], "two.json": [span(7, 1, "alpha", 0.25, 0.75)]})
     page = Page(driver, program, ["--nanoseconds", "--apart", "one.json", "two.json"], folder=folder)
     expect("the hint of files apart", hint(page), f"Times are whole nanoseconds.{HINT} "
-           "Rows are sums over all files; with the column file (--group-by) each file has its own.")
+           "Rows are of all files together; with the column file (--group-by) each file has its own.")
     expect("titles of files apart", page.titles("#names"), ["name", "self, ns", "of busy", "total, ns", "count", "process", "thread"])
     expect("rows of files apart", page.rows("#names"), [["alpha", "101,250", "100.0 %", "101,250", "2", "7", "1"]])
     expect("busy times of files apart", busy_times(page), [f"busy 100,500 ns (101 {US})", "busy 750 ns"])

@@ -129,21 +129,33 @@ const open = numberColumn("open", (row) => row.open);
 const id = textColumn("id", (row) => row.id);
 const category = textColumn("category", (row) => row.category);
 
+// What rows have together of a number. Of total and outer times nothing is told, since spans stand within others.
+const TOGETHER = {
+  self: { title: "sum of self", over: add, text: timeText },
+  longest: { title: "longest", over: greatest, text: timeText },
+  count: { title: "sum of count", over: add, text: grouped },
+};
+
 function spanTable() {
-  const self = timeColumn("self", (row) => row.self, { bar: (row, most) => fraction(row.self, most) });
-  const share = numberColumn("of busy", (row) => fraction(row.self, busyOf(row)), {
-    fill: (row) => shareText(row.self, busyOf(row)) });
-  const count = numberColumn("count", (row) => row.count);
   const [first, ...others] = keyColumns();
   const isWide = ({ kind }) => kind !== undefined;
   const columns = [{ ...first, fill: (row) => graphButton(row, first) }, ...others.filter(isWide)];
-  const numbers = runs.length > 0 ? [self, share, total, count] : [self, total, count];
-  const table = new Table("rows", [...columns, ...numbers, ...others.filter((column) => !isWide(column))], [
-    { title: "self", value: self.value, text: timeText },
-    { title: "count", value: count.value, text: grouped },
-  ]);
+  const numbers = spans.numbers.flatMap(columnsOfNumber);
+  const told = spans.numbers.filter((name) => Object.hasOwn(TOGETHER, name));
+  const table = new Table("rows", [...columns, ...numbers, ...others.filter((column) => !isWide(column))],
+    told.map((name) => ({ ...TOGETHER[name], value: spans.numberIn(name) })));
   table.onchoose = (row) => graphs.find(row);
   return { table, rows: spans.rows, home: byId("names"), isShown: isSpanNarrowedTo };
+}
+
+/** The column of a number; that of self time has a bar, and beside it, where the page has the runs, the share of busy time. */
+function columnsOfNumber(name) {
+  const value = spans.numberIn(name);
+  if (name === "count") return [numberColumn(name, value)];
+  if (name !== "self") return [timeColumn(name, value)];
+  const self = timeColumn(name, value, { bar: (row, most) => fraction(value(row), most) });
+  const share = numberColumn("of busy", (row) => fraction(value(row), busyOf(row)), { fill: (row) => shareText(value(row), busyOf(row)) });
+  return runs.length > 0 ? [self, share] : [self];
 }
 
 // The columns of numbers whose names have columns too. If both are there, they share one.

@@ -1,5 +1,9 @@
-// Reads the table of closed spans, which is JSON Lines: its columns, and rows with a key, whose values stand in the order of the columns,
-// and sums. A key says of which threads a row can be; the frames of a row are those of these threads that have its label.
+// Reads the table of closed spans, which is JSON Lines: its columns and numbers, and rows with a key, whose values stand in the order of
+// the columns, and with these numbers. A key says of which threads a row can be; the frames of a row are those of these threads that have
+// its label.
+
+// The numbers of a table whose head names none, as they are shown.
+const USUAL_NUMBERS = ["self", "total", "count"];
 
 // Values, each with its kind, which is its place among the kinds as they are ordered, what orders it among those of its kind, and the word
 // that stands for it in a label.
@@ -82,14 +86,14 @@ class SpanTable {
   constructor(text, { files, threads }) {
     const [head, ...lines] = text.split("\n").slice(0, -1);
     const counts = JSON.parse(head);
-    const { columns } = counts;
+    const { columns, numbers = USUAL_NUMBERS } = counts;
     const indexesOf = (isAsked) => columns.flatMap((column, at) => (isAsked(column) ? [at] : []));
     this.inPlace = indexesOf(isPlace);
     this.inLabel = indexesOf(isOfLabel);
     this.inWords = indexesOf(isOfWords);
     this.labelTitle = this.inLabel.map((at) => columns[at]).join(" ") || "label";
     // Values are known by their texts, since most stand in many rows.
-    Object.assign(this, { columns, counts, values: new Map(), labelled: null });
+    Object.assign(this, { columns, numbers, counts, values: new Map(), labelled: null });
     this.unit = counts.unit === NANOSECONDS.sign ? NANOSECONDS : MICROSECONDS;
     this.rows = lines.map((line) => this.rowOf(membersOf(line)));
     const fileAt = columns.indexOf("file");
@@ -98,12 +102,18 @@ class SpanTable {
     for (const row of this.rows) row.place = this.placeOf(row);
   }
 
-  /** A row: the values of its key, its sums, its label, and the words that are looked through for it. */
+  /** A row: the values of its key, its numbers, its label, and the words that are looked through for it. */
   rowOf(members) {
     const values = this.columns.map((column) => this.valueOf(members.get(column)));
     const textOf = (indexes) => indexes.map((at) => values[at].word).filter((word) => word !== null).join(" ");
-    const [count, total, self] = ["count", "total", "self"].map((name) => BigInt(members.get(name)));
-    return { values, count, total, self, place: NOWHERE, label: textOf(this.inLabel), words: textOf(this.inWords) };
+    const numbers = this.numbers.map((name) => BigInt(members.get(name)));
+    return { values, numbers, place: NOWHERE, label: textOf(this.inLabel), words: textOf(this.inWords) };
+  }
+
+  /** What gives a row's number of this name, which the table has. */
+  numberIn(name) {
+    const at = this.numbers.indexOf(name);
+    return ({ numbers }) => numbers[at];
   }
 
   /** The threads that a row can be of. */

@@ -56,9 +56,9 @@ function wordOf(column) {
 }
 
 class Table {
-  /** `what` is what the rows are, as "names"; `sums` are the columns whose sums are told. The greatest of the first number lead. */
-  constructor(what, columns, sums = []) {
-    Object.assign(this, { what, columns, sums, given: [], rows: [], all: 0 });
+  /** `what` is what the rows are, as "names"; `together` is what is told of all rows. The greatest of the first number lead. */
+  constructor(what, columns, together = []) {
+    Object.assign(this, { what, columns, together, given: [], rows: [], all: 0 });
     this.order = null;
     this.firstOrder = this.order;
     this.status = element("p", { className: "status", role: "status" });
@@ -141,12 +141,11 @@ class Table {
     if (getSelection().isCollapsed) this.onchoose?.(row);
   }
 
-  /** Tells how many rows are shown, and the sums of all that are narrowed to, shown or not. */
+  /** Tells how many rows are shown, and what all that are narrowed to have together, shown or not. */
   tell() {
     const narrowed = this.rows.length < this.all ? `, narrowed from ${grouped(this.all)}` : "";
-    const sums = this.sums.map(({ title, value, text }) =>
-      `; sum of ${title} ${text(this.rows.reduce((sum, row) => sum + value(row), 0n))}`);
+    const together = this.together.map(({ title, over, value, text }) => `; ${title} ${text(over(this.rows.map(value)))}`);
     this.status.textContent =
-      `${grouped(this.body.rows.length)} of ${grouped(this.rows.length)} ${this.what} shown${narrowed}${sums.join("")}`;
+      `${grouped(this.body.rows.length)} of ${grouped(this.rows.length)} ${this.what} shown${narrowed}${together.join("")}`;
   }
 }

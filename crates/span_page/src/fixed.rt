@@ -4,7 +4,7 @@ pub(crate) const BEFORE: &str = r#"<!DOCTYPE html>
 <html lang="en">
 <head>
 <meta charset="utf-8">
-<meta http-equiv="Content-Security-Policy" content="default-src 'none'; script-src 'sha256-pSuT6mU1xZSgP9e2vbvaWLiTpXONOOJpsm0R2G5PecA='; style-src 'sha256-l0GSLk8mSCWf3MAzl3a1aPwdpnW8mPlPL5MC084zi/o='; base-uri 'none'; form-action 'none'">
+<meta http-equiv="Content-Security-Policy" content="default-src 'none'; script-src 'sha256-HkMAyE88Wh8R3zWiRpHSNG2SdbUxMtnfRVylCk86lb4='; style-src 'sha256-aYT71exuZWPhRoFUsm5jq1AgXnbv0Fm8CVguN8QJ2Dk='; base-uri 'none'; form-action 'none'">
 <meta name="viewport" content="width=device-width, initial-scale=1">
 <meta name="color-scheme" content="light dark">
 <title>tracebook</title>
@@ -115,6 +115,8 @@ canvas { position: sticky; top: 0; display: block; width: 100%; }
   td { min-width: 4.5rem; max-width: none; overflow-wrap: anywhere; }
   td.name, td.detail, td.name:has(+ td.detail) { width: auto; min-width: 7rem; max-width: none; }
   td.number, td.barred { min-width: 0; white-space: nowrap; }
+  /* Three times, whose titles have a unit behind a comma, may be wider than paper. */
+  tr:has([data-title*=","] ~ [data-title*=","] ~ [data-title*=","]) td[data-title*=","] { min-width: 4.5rem; white-space: normal; }
   th button { padding: 0; }
   tr { break-inside: avoid; }
   .barred { print-color-adjust: exact; }
@@ -142,7 +144,7 @@ canvas { position: sticky; top: 0; display: block; width: 100%; }
 <section aria-labelledby="names-title">
 <h2 id="names-title">Spans</h2>
 <p class="hint"><span id="times"></span> A click on a column sorts<span class="of-runs">; a click on a row marks its frames in a flame graph</span>. The address shows the view again.
-<span id="over-files" hidden>Rows are sums over all files; with the column file (--group-by) each file has its own.</span></p>
+<span id="over-files" hidden>Rows are of all files together; with the column file (--group-by) each file has its own.</span></p>
 <div id="names"></div>
 </section>
 <section aria-labelledby="graphs-title">
@@ -346,8 +348,12 @@ function readRuns(runs) {
   return report;
 }
 
-// Reads the table of closed spans, which is JSON Lines: its columns, and rows with a key, whose values stand in the order of the columns,
-// and sums. A key says of which threads a row can be; the frames of a row are those of these threads that have its label.
+// Reads the table of closed spans, which is JSON Lines: its columns and numbers, and rows with a key, whose values stand in the order of
+// the columns, and with these numbers. A key says of which threads a row can be; the frames of a row are those of these threads that have
+// its label.
+
+// The numbers of a table whose head names none, as they are shown.
+const USUAL_NUMBERS = ["self", "total", "count"];
 
 // Values, each with its kind, which is its place among the kinds as they are ordered, what orders it among those of its kind, and the word
 // that stands for it in a label.
@@ -430,14 +436,14 @@ class SpanTable {
   constructor(text, { files, threads }) {
     const [head, ...lines] = text.split("\n").slice(0, -1);
     const counts = JSON.parse(head);
-    const { columns } = counts;
+    const { columns, numbers = USUAL_NUMBERS } = counts;
     const indexesOf = (isAsked) => columns.flatMap((column, at) => (isAsked(column) ? [at] : []));
     this.inPlace = indexesOf(isPlace);
     this.inLabel = indexesOf(isOfLabel);
     this.inWords = indexesOf(isOfWords);
     this.labelTitle = this.inLabel.map((at) => columns[at]).join(" ") || "label";
     // Values are known by their texts, since most stand in many rows.
-    Object.assign(this, { columns, counts, values: new Map(), labelled: null });
+    Object.assign(this, { columns, numbers, counts, values: new Map(), labelled: null });
     this.unit = counts.unit === NANOSECONDS.sign ? NANOSECONDS : MICROSECONDS;
     this.rows = lines.map((line) => this.rowOf(membersOf(line)));
     const fileAt = columns.indexOf("file");
@@ -446,12 +452,18 @@ class SpanTable {
     for (const row of this.rows) row.place = this.placeOf(row);
   }
 
-  /** A row: the values of its key, its sums, its label, and the words that are looked through for it. */
+  /** A row: the values of its key, its numbers, its label, and the words that are looked through for it. */
   rowOf(members) {
     const values = this.columns.map((column) => this.valueOf(members.get(column)));
     const textOf = (indexes) => indexes.map((at) => values[at].word).filter((word) => word !== null).join(" ");
-    const [count, total, self] = ["count", "total", "self"].map((name) => BigInt(members.get(name)));
-    return { values, count, total, self, place: NOWHERE, label: textOf(this.inLabel), words: textOf(this.inWords) };
+    const numbers = this.numbers.map((name) => BigInt(members.get(name)));
+    return { values, numbers, place: NOWHERE, label: textOf(this.inLabel), words: textOf(this.inWords) };
+  }
+
+  /** What gives a row's number of this name, which the table has. */
+  numberIn(name) {
+    const at = this.numbers.indexOf(name);
+    return ({ numbers }) => numbers[at];
   }
 
   /** The threads that a row can be of. */
@@ -547,9 +559,9 @@ function wordOf(column) {
 }
 
 class Table {
-  /** `what` is what the rows are, as "names"; `sums` are the columns whose sums are told. The greatest of the first number lead. */
-  constructor(what, columns, sums = []) {
-    Object.assign(this, { what, columns, sums, given: [], rows: [], all: 0 });
+  /** `what` is what the rows are, as "names"; `together` is what is told of all rows. The greatest of the first number lead. */
+  constructor(what, columns, together = []) {
+    Object.assign(this, { what, columns, together, given: [], rows: [], all: 0 });
     this.order = null;
     this.firstOrder = this.order;
     this.status = element("p", { className: "status", role: "status" });
@@ -632,13 +644,12 @@ class Table {
     if (getSelection().isCollapsed) this.onchoose?.(row);
   }
 
-  /** Tells how many rows are shown, and the sums of all that are narrowed to, shown or not. */
+  /** Tells how many rows are shown, and what all that are narrowed to have together, shown or not. */
   tell() {
     const narrowed = this.rows.length < this.all ? `, narrowed from ${grouped(this.all)}` : "";
-    const sums = this.sums.map(({ title, value, text }) =>
-      `; sum of ${title} ${text(this.rows.reduce((sum, row) => sum + value(row), 0n))}`);
+    const together = this.together.map(({ title, over, value, text }) => `; ${title} ${text(over(this.rows.map(value)))}`);
     this.status.textContent =
-      `${grouped(this.body.rows.length)} of ${grouped(this.rows.length)} ${this.what} shown${narrowed}${sums.join("")}`;
+      `${grouped(this.body.rows.length)} of ${grouped(this.rows.length)} ${this.what} shown${narrowed}${together.join("")}`;
   }
 }
 
@@ -1331,21 +1342,33 @@ const open = numberColumn("open", (row) => row.open);
 const id = textColumn("id", (row) => row.id);
 const category = textColumn("category", (row) => row.category);
 
+// What rows have together of a number. Of total and outer times nothing is told, since spans stand within others.
+const TOGETHER = {
+  self: { title: "sum of self", over: add, text: timeText },
+  longest: { title: "longest", over: greatest, text: timeText },
+  count: { title: "sum of count", over: add, text: grouped },
+};
+
 function spanTable() {
-  const self = timeColumn("self", (row) => row.self, { bar: (row, most) => fraction(row.self, most) });
-  const share = numberColumn("of busy", (row) => fraction(row.self, busyOf(row)), {
-    fill: (row) => shareText(row.self, busyOf(row)) });
-  const count = numberColumn("count", (row) => row.count);
   const [first, ...others] = keyColumns();
   const isWide = ({ kind }) => kind !== undefined;
   const columns = [{ ...first, fill: (row) => graphButton(row, first) }, ...others.filter(isWide)];
-  const numbers = runs.length > 0 ? [self, share, total, count] : [self, total, count];
-  const table = new Table("rows", [...columns, ...numbers, ...others.filter((column) => !isWide(column))], [
-    { title: "self", value: self.value, text: timeText },
-    { title: "count", value: count.value, text: grouped },
-  ]);
+  const numbers = spans.numbers.flatMap(columnsOfNumber);
+  const told = spans.numbers.filter((name) => Object.hasOwn(TOGETHER, name));
+  const table = new Table("rows", [...columns, ...numbers, ...others.filter((column) => !isWide(column))],
+    told.map((name) => ({ ...TOGETHER[name], value: spans.numberIn(name) })));
   table.onchoose = (row) => graphs.find(row);
   return { table, rows: spans.rows, home: byId("names"), isShown: isSpanNarrowedTo };
+}
+
+/** The column of a number; that of self time has a bar, and beside it, where the page has the runs, the share of busy time. */
+function columnsOfNumber(name) {
+  const value = spans.numberIn(name);
+  if (name === "count") return [numberColumn(name, value)];
+  if (name !== "self") return [timeColumn(name, value)];
+  const self = timeColumn(name, value, { bar: (row, most) => fraction(value(row), most) });
+  const share = numberColumn("of busy", (row) => fraction(value(row), busyOf(row)), { fill: (row) => shareText(value(row), busyOf(row)) });
+  return runs.length > 0 ? [self, share] : [self];
 }
 
 // The columns of numbers whose names have columns too. If both are there, they share one.
