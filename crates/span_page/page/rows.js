@@ -21,7 +21,9 @@ const PLACES = {
 
 const isPlace = (column) => Object.hasOwn(PLACES, column);
 const isOfLabel = (column) => column === "name" || column.startsWith("args.");
-const isOfWords = (column) => column === "file" || isOfLabel(column);
+// The names and arguments of parents are no part of a label, since frames are labelled by what their own spans have.
+const isOfParent = (column) => column.startsWith("parent.");
+const isOfWords = (column) => column === "file" || isOfLabel(column) || isOfParent(column);
 
 const textValue = (word) => ({ kind: KINDS.text, order: word, word });
 

@@ -4,7 +4,7 @@ pub(crate) const BEFORE: &str = r#"<!DOCTYPE html>
 <html lang="en">
 <head>
 <meta charset="utf-8">
-<meta http-equiv="Content-Security-Policy" content="default-src 'none'; script-src 'sha256-HkMAyE88Wh8R3zWiRpHSNG2SdbUxMtnfRVylCk86lb4='; style-src 'sha256-aYT71exuZWPhRoFUsm5jq1AgXnbv0Fm8CVguN8QJ2Dk='; base-uri 'none'; form-action 'none'">
+<meta http-equiv="Content-Security-Policy" content="default-src 'none'; script-src 'sha256-4LETTrHSIMVoUpVROapfMMRsXeGKGp1/B3bwPUuLXUI='; style-src 'sha256-aYT71exuZWPhRoFUsm5jq1AgXnbv0Fm8CVguN8QJ2Dk='; base-uri 'none'; form-action 'none'">
 <meta name="viewport" content="width=device-width, initial-scale=1">
 <meta name="color-scheme" content="light dark">
 <title>tracebook</title>
@@ -371,7 +371,9 @@ const PLACES = {
 
 const isPlace = (column) => Object.hasOwn(PLACES, column);
 const isOfLabel = (column) => column === "name" || column.startsWith("args.");
-const isOfWords = (column) => column === "file" || isOfLabel(column);
+// The names and arguments of parents are no part of a label, since frames are labelled by what their own spans have.
+const isOfParent = (column) => column.startsWith("parent.");
+const isOfWords = (column) => column === "file" || isOfLabel(column) || isOfParent(column);
 
 const textValue = (word) => ({ kind: KINDS.text, order: word, word });
 
@@ -1231,7 +1233,7 @@ const spans = new SpanTable(data.table, report);
 const unit = runs.length > 0 ? report.unit : spans.unit;
 
 // What is narrowed to: rows of a file, a process and a thread, whose names have all of some words and none of others, and threads with
-// frames that are labelled so.
+// frames that are labelled so. What rows have of parents counts for them alone, since a frame can be of spans with several parents.
 
 const narrowed = { file: null, process: null, thread: null, wanted: [], unwanted: [], places: new Set() };
 
@@ -1291,6 +1293,7 @@ function narrow() {
   narrowed.wanted = words.filter((word) => !word.startsWith("-"));
   narrowed.unwanted = words.filter((word) => word.startsWith("-")).map((word) => word.slice(1));
   showRows();
+  graphs.found.clear();
   graphs.show();
   graphs.mark(narrowed.wanted.length > 0 ? labelTestOf : () => null);
 }
@@ -1478,7 +1481,9 @@ function leftOutTimeOf(place) {
 class Graphs {
   constructor() {
     this.threads = byBusyTime(report.threads.filter((thread) => isLeftOut(thread) || hasGraph(thread)));
-    Object.assign(this, { sections: new Map(), graphs: new Map(), most: FIRST_GRAPHS, testOf: () => null, sought: new Set() });
+    Object.assign(this, { sections: new Map(), graphs: new Map(), most: FIRST_GRAPHS, testOf: () => null });
+    // Threads that are listed however many are busier, and those of rows that were clicked, which are listed whatever the words are.
+    Object.assign(this, { sought: new Set(), found: new Set() });
     byId("more-graphs").onclick = () => this.show(this.most + MORE_GRAPHS);
     byId("order").onchange = () => this.order();
   }
@@ -1493,7 +1498,7 @@ class Graphs {
 
   show(most = FIRST_GRAPHS) {
     this.most = most;
-    const threads = this.threads.filter(isThreadNarrowedTo);
+    const threads = this.threads.filter((thread) => isThreadNarrowedTo(thread) || this.found.has(thread));
     const listed = threads.filter((thread, at) => at < most || this.sought.has(thread));
     byId("graphs").replaceChildren(...listed.map((thread) => this.sectionOf(thread)));
     for (const thread of listed) setBar(this.sectionOf(thread).querySelector(".busy"), fraction(thread.busy, threads[0].busy));
@@ -1560,13 +1565,14 @@ class Graphs {
     return this.graphOf(thread);
   }
 
-  /** Opens the graph of the busiest thread that has frames of a row, with these marked; one that is narrowed to comes first. */
+  /** Opens the graph of the busiest thread that has frames of a row, with these marked; one that is narrowed to comes first. Where the words
+   * are those of the row's parents alone, none may be; then it is listed nevertheless, until something else is narrowed to. */
   find({ place, label }) {
-    const own = new Set(place.threads);
-    const threads = this.threads.filter((thread) => hasGraph(thread) && own.has(thread));
+    const threads = this.threads.filter((thread) => hasGraph(thread) && place.has.has(thread) && isThreadOfPlace(thread));
     const having = threads.filter((thread) => labelsOf(thread).includes(label));
     const thread = having.find(isThreadNarrowedTo) ?? having[0] ?? threads[0];
     if (thread === undefined) return;
+    this.found.add(thread);
     const graph = this.open(thread);
     graph.mark((other) => other === label);
     graph.reveal();
