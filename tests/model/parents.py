@@ -1,4 +1,5 @@
-"""The parents of closed spans, by docs/report.md alone."""
+"""The parents of closed spans, and which of these are outer, by docs/report.md alone."""
+from math import inf
 
 
 def rank(span):
@@ -19,3 +20,13 @@ def parents_of(spans):
     for place, span in enumerate(ranked):
         parents[span[2]] = next((other for other in reversed(ranked[:place]) if holds(other, span)), None)
     return [parents[span[2]] for span in spans]
+
+
+def are_outer(spans):
+    """Whether each of the closed spans of a thread is outer: no other one with its name holds it. Those with its name that it ranks above
+    start no later, so one of them holds it if it ends no earlier."""
+    latest, outer = {}, {}
+    for _, end, position, name, *_ in sorted(spans, key=rank):
+        outer[position] = latest.get(name, -inf) < end
+        latest[name] = max(end, latest.get(name, -inf))
+    return [outer[span[2]] for span in spans]

@@ -52,8 +52,7 @@ class Sides:
 
     def values(self, key):
         """Those of both sides under a key, 0 where a repetition lacks it."""
-        of = self.first().of
-        return tuple([of.number(self.by, table.rows.get(key, of.nothing())) for table in side] for side in (self.base, self.other))
+        return tuple([table.number(self.by, table.numbers_at(key)) for table in side] for side in (self.base, self.other))
 
     def sums(self):
         """Each side's tables added up."""
@@ -129,7 +128,7 @@ def collected(line):
     of = ASYNC if line.of == "async" else SPANS
     columns, narrowing = of.columns_of(line.group_by or tables.usual_columns(line, of)), tables.narrowing_of(line)
     sides = ([tables.run_of(line, [file]) for file in files] for files in (line.base, line.files))
-    return [[tables.table_of(columns, [run], True, of, narrowing) for run in runs] for runs in sides]
+    return [[tables.table_of(columns, [run], True, of, narrowing, tables.list_of(line, of)) for run in runs] for runs in sides]
 
 
 def printed(line):
@@ -144,7 +143,7 @@ def text_of_line(line):
     if not 1 <= len(line.base) <= MOST or len(line.files) > MOST:
         raise Stopped("tracebook: 41 FileCount")
     base, other = printed(line) if line.add else collected(line)
-    sides = Sides(base, other, line.by or base[0].of.order[0], tables.Wanted(line.only, line.skip))
+    sides = Sides(base, other, line.by or base[0].usual_by(), tables.Wanted(line.only, line.skip))
     text = json_repeats_of(sides) if line.json else repeats_of(sides, line.top)
     if text is None:
         raise Stopped("tracebook: 55 TooGreat")

@@ -3,37 +3,35 @@ numbers."""
 from dataclasses import dataclass
 from functools import partial
 from itertools import repeat
+from operator import add
 
 from ledger import self_times
 from narrowing import ALL, ARGUMENT, PARENT
-from parents import parents_of
+from parents import are_outer, parents_of
 from values import MISSING, argument_value, name_value, whole, words
 
 MOST_COLUMNS = 8
+# Of this number the greatest is taken where others are added up; for this one it is looked which spans are outer.
+LONGEST, OUTER = "longest", "outer"
 # The numbers that are times.
-TIMES = ("self", "total")
+TIMES = ("self", "total", LONGEST, OUTER)
 
 
 @dataclass(frozen=True)
 class Of:
-    """What a table sums: its columns, but for those of arguments, and what these begin with; and its numbers as they stand in JSON Lines,
-    in a ranking and on each side of a comparison, and in the order in which changes go by them. Rows go by the first of these, where none
-    is named."""
+    """What a table sums: its columns, but for those of arguments, and what these begin with; its numbers, as they are summed; and those
+    that JSON Lines, and texts for people, have where none are named."""
 
     columns: tuple
     arguments: tuple
     numbers: tuple
-    ranked: tuple
-    compared: tuple
-    order: tuple
+    lines: tuple
+    texts: tuple
+    # Those by which equal changes go behind the times, and those that a comparison for people leaves out where none are named.
+    last: tuple
+    left_out: tuple
     # A key has some of these.
     counted: tuple
-
-    def nothing(self):
-        return (0,) * len(self.numbers)
-
-    def number(self, name, sums):
-        return sums[self.numbers.index(name)]
 
     def has_column(self, column):
         has_key = column.startswith(self.arguments) and column not in self.arguments and "," not in column
@@ -46,26 +44,31 @@ class Of:
             raise ValueError(text)
         return columns
 
+    def has_numbers(self, names):
+        """Whether these are different numbers of this, at least one."""
+        return 0 < len(names) == len(set(names)) and set(names).issubset(self.numbers)
+
 
 SPANS = Of(
     columns=("pid", "tid", "process", "thread", "name", "file", PARENT + "name"),
     arguments=(ARGUMENT, PARENT + ARGUMENT),
-    numbers=("count", "total", "self"),
-    ranked=("self", "total", "count"),
-    compared=("self", "total", "count"),
-    order=("self", "total"),
+    numbers=("count", "total", "self", LONGEST, OUTER),
+    lines=("count", "total", "self"),
+    texts=("self", "total", "count"),
+    last=(),
+    left_out=(),
     counted=("count",),
 )
 ASYNC = Of(
     columns=("cat", "scope", "id", "name", "file"),
     arguments=(),
-    numbers=("closed", "total", "open", "points"),
-    ranked=("total", "closed", "open", "points"),
-    compared=("total", "closed", "open"),
-    order=("total", "open", "closed"),
+    numbers=("closed", "total", "open", "points", LONGEST),
+    lines=("closed", "total", "open", "points"),
+    texts=("total", "closed", "open", "points"),
+    last=("open", "closed"),
+    left_out=("points",),
     counted=("closed", "open", "points"),
 )
-
 
 
 def own_value(column, span):
@@ -95,37 +98,47 @@ def async_value(run, key, column):
     return words({"cat": category, "scope": scope, "id": ":".join(map(str, id_)), "name": name, "file": run.name}[column])
 
 
-def span_sums(run, has_parents):
-    """What gives the values of each closed span of a run in columns, and its numbers. Parents are looked for where a column has them."""
+def outer_lengths(spans):
+    """The length of each of the closed spans of a thread that is outer, and 0 of the others."""
+    return [end - start if is_outer else 0 for (start, end, *_), is_outer in zip(spans, are_outer(spans))]
+
+
+def span_sums(run, has_parents, has_outer):
+    """What gives the values of each closed span of a run in columns, and its numbers. Parents are looked for where a column has them, and
+    outer spans where a number is of these."""
     for process in run.ledger.processes.values():
         for number, thread in process.threads.items():
             parents = parents_of(thread.closed) if has_parents else repeat(None)
-            for span, own, parent in zip(thread.closed, self_times(thread.closed), parents):
-                yield partial(span_value, run, number, span, parent), (1, span[1] - span[0], own)
+            outer = outer_lengths(thread.closed) if has_outer else repeat(0)
+            for span, own, parent, outer_length in zip(thread.closed, self_times(thread.closed), parents, outer):
+                length = span[1] - span[0]
+                yield partial(span_value, run, number, span, parent), (1, length, own, length, outer_length)
 
 
-def async_sums(run, has_parents):
-    """The same of each async key of a run, which has no parent."""
-    assert not has_parents
+def async_sums(run, has_parents, has_outer):
+    """The same of each async key of a run, which has no parent, and none of which is outer."""
+    assert not has_parents and not has_outer
     for key, spans in run.ledger.async_keys.items():
-        yield partial(async_value, run, key), (spans.closed, spans.total, len(spans.open), spans.points)
+        yield partial(async_value, run, key), (spans.closed, spans.total, len(spans.open), spans.points, spans.longest)
 
 
 SUMS = {SPANS: span_sums, ASYNC: async_sums}
 
 
-def keyed_sums(of, run, columns, narrowing=ALL):
-    """The key and the numbers of each span of a run that is summed by these columns."""
+def keyed_sums(of, run, columns, names, narrowing=ALL):
+    """The key of each span of a run that is summed by these columns, and its numbers of these names."""
     has_parents = any(column.startswith(PARENT) for column in [*columns, *narrowing.columns()])
-    for value_in, numbers in SUMS[of](run, has_parents):
+    places = [of.numbers.index(name) for name in names]
+    for value_in, numbers in SUMS[of](run, has_parents, OUTER in names):
         key = narrowing.key(columns, value_in)
         if key is not None:
-            yield key, numbers
+            yield key, tuple(numbers[place] for place in places)
 
 
-def added(keyed):
-    """The sums of each key, of keys that each have numbers."""
-    rows = {}
+def added(keyed, names):
+    """The sums of each key, of keys that each have numbers of these names."""
+    rows, joins = {}, [max if name == LONGEST else add for name in names]
     for key, numbers in keyed:
-        rows[key] = tuple(a + b for a, b in zip(rows.get(key, (0,) * len(numbers)), numbers))
+        before = rows.get(key)
+        rows[key] = numbers if before is None else tuple(join(a, b) for join, a, b in zip(joins, before, numbers))
     return rows

@@ -1,132 +1,34 @@
 #!/usr/bin/env python3
-"""A plain model of the tables of docs/report.md: closed spans or async keys (sums.py) summed by columns, as a ranking, a comparison, and
-JSON Lines. Files are looked for (folders.py), read and collected as for the report (report.py); like that, it is written from the pages
-alone. With --add they are tables, which are added up. What is said of them stands in said.py.
+"""A plain model of the tables of docs/report.md (table.py): closed spans or async keys (sums.py) summed by columns, as a ranking, a
+comparison, and JSON Lines. Files are looked for (folders.py), read and collected as for the report (report.py); like that, it is written
+from the pages alone. With --add they are tables, which are added up. What is said of them stands in said.py.
 
 usage: tables.py [--seal] [--strict] [--nanoseconds] [--of spans|async] [--apart | --add] [--top N | --json] [--by NUMBER]
-                 [--group-by COLUMNS] [--where CONDITION].. [--merge-templates] [--only TEXT].. [--skip TEXT].. [--base FILE].. [FILE...]
+                 [--numbers NUMBERS] [--group-by COLUMNS] [--where CONDITION].. [--merge-templates] [--only TEXT].. [--skip TEXT]..
+                 [--base FILE].. [FILE...]
 """
 import argparse
 import gc
 import json
 import sys
-from dataclasses import dataclass, field
 from json.encoder import encode_basestring as json_text
 
 from folders import STANDARD_INPUT, TABLES, TRACES, files_of
-from narrowing import ARGUMENT, PARENT, Narrowing, condition_of
+from narrowing import PARENT, Narrowing, condition_of
 from reading import MICROSECONDS, NANOSECONDS
 from report import bytes_of, collect, first_lines, text_of
 from said import Said, Stopped
-from sums import ASYNC, SPANS, TIMES, Of, added, keyed_sums
+from sums import ASYNC, SPANS, TIMES
+from table import ALL, COUNTS, Run, Table, Wanted, said_beside, sum_of, table_of
 from values import MISSING, NIL, OTHER, WHOLE, WORDS, argument_value
 
 RANKED_BY = "pid,tid,thread,name"
 COMPARED_BY = "process,thread,name"
 ASYNC_BY = "cat,name"
-# What the columns of arguments begin with that no span may have.
-ARGUMENTS = ARGUMENT, PARENT + ARGUMENT
-TAKES_ALL = Narrowing()
 # The rows of a ranking that isn't asked for, but meant.
 USUAL_ROWS = 20
 # Below this are the numbers of JSON Lines.
 BEYOND = 2**64
-
-
-@dataclass
-class Run:
-    """What one ledger holds, of so many files, and what is said of them; and what the column `file` has where it is of one alone."""
-
-    ledger: object
-    files: int = 1
-    said: Said = field(default_factory=Said)
-    name: str = ""
-
-
-# What a table counts beside its rows, in the order of JSON Lines.
-COUNTS = ["runs", "files", "unread", "events", "refused", "skipped", "queries", "seals"]
-
-
-def counts_of(run):
-    ledger = run.ledger
-    refused = sum(ledger.refused.values())
-    return dict(zip(COUNTS, [1, run.files, len(run.said.faults), ledger.accepted, refused, ledger.skipped, 0, ledger.seals]))
-
-
-def all_counts(each):
-    return {name: sum(counts[name] for counts in each) for name in COUNTS}
-
-
-@dataclass
-class Table:
-    columns: list
-    counts: dict
-    rows: dict  # the numbers of each key
-    says_runs: bool = True
-    unit: str = MICROSECONDS
-    of: Of = SPANS
-    said: Said = field(default_factory=Said)  # of the files of its runs
-
-    def head_lines(self):
-        """The lines of the head behind its first ones, but for that of shown rows."""
-        yield "events {events} refused {refused} skipped {skipped} queries {queries}".format(**self.counts)
-        if self.counts["seals"]:
-            yield "seals {seals}".format(**self.counts)
-        if self.says_runs:
-            yield "runs {runs} files {files} unread {unread}".format(**self.counts)
-
-
-def table_of(columns, runs, says_runs=False, of=SPANS, narrowing=TAKES_ALL):
-    rows = added(entry for run in runs for entry in keyed_sums(of, run, columns, narrowing))
-    said = sum((run.said for run in runs), Said())
-    return Table(columns, all_counts([counts_of(run) for run in runs]), rows, says_runs, runs[0].ledger.unit, of, said)
-
-
-def rows_by(columns, table, narrowing):
-    """The keys of a table by these of its columns that are left, each with the numbers of a row."""
-    for key, numbers in table.rows.items():
-        left = narrowing.key(columns, dict(zip(table.columns, key)).get)
-        if left is not None:
-            yield left, numbers
-
-
-def sum_of(tables, columns, narrowing=TAKES_ALL):
-    """The sum of tables, by these of their columns."""
-    rows = added(row for table in tables for row in rows_by(columns, table, narrowing))
-    return Table(columns, all_counts([table.counts for table in tables]), rows, unit=tables[0].unit, of=tables[0].of)
-
-
-def said_beside(tables):
-    """What is said beside a text of these tables: of their files, and of each column of arguments in which none of their keys has a value,
-    if there are keys."""
-    said = sum((table.said for table in tables), Said())
-    keys = [key for table in tables for key in table.rows]
-    for place, column in enumerate(tables[0].columns):
-        if keys and column.startswith(ARGUMENTS) and all(key[place] == MISSING for key in keys):
-            said.lack(column)
-    return said
-
-
-@dataclass
-class Wanted:
-    """What a text of a key must have, and what none may."""
-
-    only: list
-    skip: list
-
-    def shows(self, key):
-        texts = [value[1] for value in key if value[0] == WORDS]
-        return all(any(text in own for own in texts) for text in self.only) and not any(
-            text in own for text in self.skip for own in texts
-        )
-
-    def line(self, keys):
-        """How many of these keys are shown, where it is said."""
-        if self.only or self.skip:
-            yield f"shown {sum(map(self.shows, keys))} of {len(keys)}"
-
-
-ALL = Wanted([], [])
 
 
 # Texts for people
@@ -143,9 +45,13 @@ def title(column):
     return json_text(column)[1:-1]
 
 
+def is_time(name):
+    return name in TIMES
+
+
 def right(name, text):
     """A number of this name, or its title, aligned."""
-    return f"{text:>{16 if name in TIMES else 8}}"
+    return f"{text:>{16 if is_time(name) else 8}}"
 
 
 def title_line(names, columns):
@@ -154,18 +60,17 @@ def title_line(names, columns):
 
 
 def ranking_lines(table, most, by, wanted):
-    of = table.of
     yield from first_lines(table.unit)
     yield from table.head_lines()
     yield from wanted.line(table.rows)
-    yield title_line([(name, name) for name in of.ranked], table.columns)
+    yield title_line([(name, name) for name in table.shown()], table.columns)
     shown = [(key, numbers) for key, numbers in table.rows.items() if wanted.shows(key)]
-    for key, numbers in sorted(shown, key=lambda row: (-of.number(by, row[1]), row[0]))[:most]:
-        yield " ".join([*(right(name, of.number(name, numbers)) for name in of.ranked), *map(value_text, key)])
+    for key, numbers in sorted(shown, key=lambda row: (-table.number(by, row[1]), row[0]))[:most]:
+        yield " ".join([*(right(name, table.number(name, numbers)) for name in table.shown()), *map(value_text, key)])
 
 
 def ranking_of(table, most, by=None, wanted=ALL):
-    return text_of(ranking_lines(table, most, by or table.of.order[0], wanted))
+    return text_of(ranking_lines(table, most, by or table.usual_by(), wanted))
 
 
 def difference(base, other):
@@ -174,31 +79,38 @@ def difference(base, other):
 
 def changes_of(base, other, by, wanted):
     """The shown keys of which a number differs, in order, each with its numbers in both, and how many shown keys have none."""
-    of = other.of
     keys = [key for key in base.rows.keys() | other.rows.keys() if wanted.shows(key)]
-    both = [(key, base.rows.get(key, of.nothing()), other.rows.get(key, of.nothing())) for key in keys]
+    both = [(key, base.numbers_at(key), other.numbers_at(key)) for key in keys]
     changed = [change for change in both if change[1] != change[2]]
+    names = [by, *filter(is_time, other.shown()), *(name for name in other.of.last if name in other.shown())]
 
     def order(change):
-        key, earlier, later = change
-        return [*(-abs(of.number(name, earlier) - of.number(name, later)) for name in (by, *of.order)), key]
+        key, *sides = change
+        numbers = [[other.number(name, side) for side in sides] for name in names]
+        return [*(-abs(earlier - later) for earlier, later in numbers), key]
 
     return sorted(changed, key=order), len(both) - len(changed)
 
 
-def compared_titles(of):
+def compared_names(table):
+    """The numbers of a comparison, the times before the others."""
+    left_out = table.of.left_out if table.shown() == table.of.texts else ()
+    return sorted((name for name in table.shown() if name not in left_out), key=is_time, reverse=True)
+
+
+def compared_titles(names):
     """The titles of a comparison, each with the number that aligns it."""
-    for name in of.compared:
-        if name in TIMES:
+    for name in names:
+        if is_time(name):
             yield name, f"d{name}"
         yield from ((name, f"{name}0"), (name, f"{name}1"))
 
 
-def compared_numbers(of, earlier, later):
+def compared_numbers(names, table, earlier, later):
     """The numbers below these titles."""
-    for name in of.compared:
-        both = of.number(name, earlier), of.number(name, later)
-        if name in TIMES:
+    for name in names:
+        both = table.number(name, earlier), table.number(name, later)
+        if is_time(name):
             yield right(name, difference(*both))
         yield from (right(name, number) for number in both)
 
@@ -216,15 +128,16 @@ def comparison_lines(base, other, by, wanted, most):
         yield f"base {line}"
     yield from other.head_lines()
     yield from wanted.line(base.rows.keys() | other.rows.keys())
-    yield title_line(compared_titles(other.of), other.columns)
+    names = compared_names(other)
+    yield title_line(compared_titles(names), other.columns)
     changes, same = changes_of(base, other, by, wanted)
-    rows = [" ".join([*compared_numbers(other.of, *numbers), *map(value_text, key)]) for key, *numbers in changes]
+    rows = [" ".join([*compared_numbers(names, other, *numbers), *map(value_text, key)]) for key, *numbers in changes]
     yield from first_rows(rows, most)
     yield f"same {same}"
 
 
 def comparison_of(base, other, by=None, wanted=ALL, most=None):
-    return text_of(comparison_lines(base, other, by or other.of.order[0], wanted, most))
+    return text_of(comparison_lines(base, other, by or other.usual_by(), wanted, most))
 
 
 # JSON Lines
@@ -272,16 +185,24 @@ UNIT_MEMBERS = {MICROSECONDS: [], NANOSECONDS: [("unit", '"ns"')]}
 UNITS = {None: MICROSECONDS, "ns": NANOSECONDS}
 
 
+def list_text(texts):
+    return "[" + ",".join(map(json_text, texts)) + "]"
+
+
 def first_members(table):
-    columns = "[" + ",".join(map(json_text, table.columns)) + "]"
-    return [("tracebook", "1"), *OF_MEMBERS[table.of], *UNIT_MEMBERS[table.unit], ("columns", columns)]
+    return [("tracebook", "1"), *OF_MEMBERS[table.of], *UNIT_MEMBERS[table.unit], ("columns", list_text(table.columns))]
+
+
+def numbers_members(table):
+    """What the head says of the numbers, where they aren't the usual ones."""
+    return [] if table.numbers() == table.of.lines else [("numbers", list_text(table.numbers()))]
 
 
 def json_lines(table, wanted):
     rows = sorted((key, numbers) for key, numbers in table.rows.items() if wanted.shows(key))
-    yield members([*first_members(table), ("rows", number(len(rows))), *counts_members(table)])
+    yield members([*first_members(table), *numbers_members(table), ("rows", number(len(rows))), *counts_members(table)])
     for key, numbers in rows:
-        yield members(key_members(table.columns, key) + number_members(table.of.numbers, numbers))
+        yield members(key_members(table.columns, key) + number_members(table.numbers(), numbers))
 
 
 def json_of(table, wanted=ALL):
@@ -290,10 +211,10 @@ def json_of(table, wanted=ALL):
 
 
 def json_comparison_lines(base, other, wanted):
-    changes, same = changes_of(base, other, other.of.order[0], wanted)
-    head = [*first_members(other), *number_members(["rows", "same"], [len(changes), same])]
+    changes, same = changes_of(base, other, other.usual_by(), wanted)
+    head = [*first_members(other), *numbers_members(other), *number_members(["rows", "same"], [len(changes), same])]
     yield members([*head, ("base", members(counts_members(base))), ("other", members(counts_members(other)))])
-    names = [f"{name}{side}" for name in other.of.numbers for side in (0, 1)]
+    names = [f"{name}{side}" for name in other.numbers() for side in (0, 1)]
     for key, earlier, later in changes:
         numbers = [part for both in zip(earlier, later) for part in both]
         yield members(key_members(other.columns, key) + number_members(names, numbers))
@@ -313,15 +234,15 @@ def text_or_none(lines):
 # Tables that were printed
 
 # The kinds of value that a column can have; an argument can have any.
-KINDS = {"pid": {WHOLE}, "tid": {WHOLE}, "process": {MISSING[0], WORDS}, "thread": {MISSING[0], WORDS}}
-KINDS |= {column: {WORDS} for column in ["name", "file", "cat", "scope", "id"]}
-KINDS |= {PARENT + "name": {MISSING[0], WORDS}}
+VALUES = {"pid": {WHOLE}, "tid": {WHOLE}, "process": {MISSING[0], WORDS}, "thread": {MISSING[0], WORDS}}
+VALUES |= {column: {WORDS} for column in ["name", "file", "cat", "scope", "id"]}
+VALUES |= {PARENT + "name": {MISSING[0], WORDS}}
 
 
 def printed_value(column, members):
     """The value of a column in the object of a row."""
     value = argument_value(members, column)
-    if value[0] not in KINDS.get(column, {value[0]}):
+    if value[0] not in VALUES.get(column, {value[0]}):
         raise ValueError(column)
     return value
 
@@ -332,21 +253,29 @@ def printed_number(members, name):
     return members[name]
 
 
-def printed_numbers(of, members):
+def printed_numbers(of, names, members):
     """The numbers of the object of a row."""
-    if not any(members[name] for name in of.counted):
+    if set(of.counted).issubset(names) and not any(members[name] for name in of.counted):
         raise ValueError(of.counted)
-    return tuple(printed_number(members, name) for name in of.numbers)
+    return tuple(printed_number(members, name) for name in names)
+
+
+def printed_list(of, head):
+    """The list of numbers that the head has, if it has one."""
+    names = tuple(head.get("numbers", of.lines))
+    if not of.has_numbers(names):
+        raise ValueError(names)
+    return names if "numbers" in head else ()
 
 
 def table_of_text(data):
     """The table of which JSON Lines print just these bytes; there is none with any other text, such as one that was cut off."""
     head, *rows = [json.loads(line) for line in data.decode().split("\n")[:-1]] or [{}]
     of = OFS[head.get("of")]
-    columns = of.columns_of(",".join(head["columns"]))
+    columns, named = of.columns_of(",".join(head["columns"])), printed_list(of, head)
     counts = {name: printed_number(head, name) for name in COUNTS}
-    keyed = {tuple(printed_value(column, row) for column in columns): printed_numbers(of, row) for row in rows}
-    table = Table(columns, counts, keyed, unit=UNITS[head.get("unit")], of=of)
+    keyed = {tuple(printed_value(column, row) for column in columns): printed_numbers(of, named or of.lines, row) for row in rows}
+    table = Table(columns, counts, keyed, unit=UNITS[head.get("unit")], of=of, named=named)
     if json_of(table) != data:
         raise ValueError("another text")
     return table
@@ -367,18 +296,24 @@ def bytes_or_stop(path):
 
 
 def tables_of_files(line):
-    """The tables of the base's files, and those of the others. All sum what the first does, and have its unit and its columns, and those
-    columns and the number that are asked for, be it by a condition."""
+    """The tables of the base's files, and those of the others. All sum what the first does, and have its unit, its columns and its
+    numbers, and those columns and numbers that are asked for, be it by a condition."""
     tables, conditioned = [], narrowing_of(line).columns()
+    asked = {*named_numbers(line, KINDS), *([line.by] if line.by else [])}
     for file in [*line.base, *line.files]:
         table = table_of_file(file.path, bytes_or_stop(file.path))
         first = tables[0] if tables else table
-        is_like_first = (table.of, table.unit, table.columns) == (first.of, first.unit, first.columns)
-        has_number = line.by is None or line.by in first.of.numbers
-        if not is_like_first or not has_number or not set(table.columns).issuperset([*wanted_columns(line, table), *conditioned]):
+        is_like_first = kind_of(table) == kind_of(first)
+        has_numbers = asked.issubset(table.numbers())
+        if not is_like_first or not has_numbers or not set(table.columns).issuperset([*wanted_columns(line, table), *conditioned]):
             raise Stopped(f"tracebook: {json_text(file.path)}: 54 OtherColumns")
         tables.append(table)
     return tables[: len(line.base)], tables[len(line.base) :]
+
+
+def kind_of(table):
+    """In what all tables that are added are alike."""
+    return table.of, table.unit, table.columns, table.named
 
 
 def wanted_columns(line, table):
@@ -386,6 +321,9 @@ def wanted_columns(line, table):
 
 
 # The command line
+
+# What a table may sum.
+KINDS = SPANS, ASYNC
 
 
 def words_of_line(words):
@@ -395,7 +333,8 @@ def words_of_line(words):
         parser.add_argument(switch, action="store_true")
     parser.add_argument("--top", type=int)
     parser.add_argument("--of", choices=["spans", "async"])
-    parser.add_argument("--by", choices=sorted({*SPANS.ranked, *ASYNC.ranked}))
+    parser.add_argument("--by", choices=sorted({*SPANS.numbers, *ASYNC.numbers}))
+    parser.add_argument("--numbers")
     parser.add_argument("--group-by")
     for several in "--only", "--skip", "--base", "--where":
         parser.add_argument(several, action="append", default=[])
@@ -415,7 +354,24 @@ def words_of_line(words):
 def shapes_a_table(line):
     """Whether a table is meant, though no text is asked for."""
     shapes = [line.apart, line.add, line.of, line.by, line.group_by, line.only, line.skip, line.where, line.merge_templates]
-    return any(shapes)
+    return any([*shapes, line.numbers is not None])
+
+
+def named_numbers(line, kinds):
+    """The list of numbers that the line names, if it does: of one of these kinds, and among them the one that rows go by."""
+    if line.numbers is None:
+        return ()
+    names = tuple(line.numbers.split(","))
+    if not any(of.has_numbers(names) for of in kinds) or line.by not in (None, *names):
+        raise ValueError(line.numbers)
+    return names
+
+
+def list_of(line, of):
+    """The list of the numbers of a table that is made for the line, where they aren't the usual ones. If it names none, a number to go by
+    that isn't among these stands in front of them."""
+    is_usual = line.by is None or line.by in of.texts
+    return named_numbers(line, [of]) or (() if is_usual else (line.by, *of.texts))
 
 
 def narrowing_of(line):
@@ -438,7 +394,7 @@ def run_of(line, files):
 
 def table_of_files(line, of, columns, files):
     runs = [run_of(line, [file]) for file in files] if line.apart else [run_of(line, files)]
-    return table_of(columns, runs, line.apart, of, narrowing_of(line))
+    return table_of(columns, runs, line.apart, of, narrowing_of(line), list_of(line, of))
 
 
 def usual_columns(line, of):
@@ -459,8 +415,8 @@ def collected(line):
 def summed(line):
     """The same of files that are tables."""
     base, others = tables_of_files(line)
-    columns = wanted_columns(line, others[0])
-    return [sum_of(tables, columns, narrowing_of(line)) for tables in ([base, others] if base else [others])]
+    shape = wanted_columns(line, others[0]), narrowing_of(line), named_numbers(line, KINDS)
+    return [sum_of(tables, *shape) for tables in ([base, others] if base else [others])]
 
 
 def text_of_line(line):
