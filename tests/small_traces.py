@@ -42,12 +42,12 @@ def event(chance, in_fractions, process):
         return async_event(chance, in_fractions)
     process = 7 if process is None else process
     phase = chance.choice("BEXXM")
-    name = name_of(chance, ["a", "ab", "b", "é"])
+    name = name_of(chance, ["a", "a", "a", "ab", "b", "é"])
     if phase == "M":
         return {"ph": "M", "name": "process_name", "pid": process, "tid": 1, "args": {"name": name}}
     made = {"ph": phase, "name": name, "pid": process, "tid": chance.randrange(2), "ts": time(chance, 100, in_fractions)}
     if phase == "X":
-        made |= {"dur": time(chance, 20, in_fractions)}
+        made |= {"dur": time(chance, chance.choice([20, 80]), in_fractions)}
     return made | ({"args": arguments(chance)} if chance.randrange(4) else {})
 
 

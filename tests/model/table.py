@@ -68,6 +68,10 @@ class Table:
         """Those of a key, which are 0 where it isn't here."""
         return self.rows.get(key, (0,) * len(self.numbers()))
 
+    def keys_below(self, less, more):
+        """How many keys have less of one number than of another."""
+        return sum(self.number(less, numbers) < self.number(more, numbers) for numbers in self.rows.values())
+
     def head_lines(self):
         """The lines of the head behind its first ones, but for that of shown rows."""
         yield "events {events} refused {refused} skipped {skipped} queries {queries}".format(**self.counts)
