@@ -1,9 +1,9 @@
 # Completes the command line of tracebook in bash: its options, the words that follow them, and files.
 
-_tracebook_options="--limit --nanoseconds --seal --strict --top --by --of --group-by --where --merge-templates --only --skip --json --apart --repeats --jobs --add --files-from --refused --folded --page --base --help --version"
+_tracebook_options="--limit --nanoseconds --seal --strict --top --by --numbers --of --group-by --where --merge-templates --only --skip --json --apart --repeats --jobs --add --files-from --refused --folded --page --base --help --version"
 
 _tracebook() {
-    local word=${COMP_WORDS[COMP_CWORD]} before=${COMP_WORDS[COMP_CWORD-1]} earlier of=spans numbers names columns
+    local word=${COMP_WORDS[COMP_CWORD]} before=${COMP_WORDS[COMP_CWORD-1]} earlier of=spans numbers names listed
     COMPREPLY=()
     # An equals sign is a word of its own.
     if [[ $word == "=" ]]; then
@@ -17,19 +17,20 @@ _tracebook() {
         [[ $earlier == "async" || $earlier == "--add" ]] && of=$earlier
     done
     case $of in
-        spans) numbers="self total count" names="pid tid process thread name file args. parent.name parent.args." ;;
-        async) numbers="total closed open points" names="cat scope id name file" ;;
+        spans) numbers="self total count longest outer" names="pid tid process thread name file args. parent.name parent.args." ;;
+        async) numbers="total closed open points longest" names="cat scope id name file" ;;
         # Tables that are added say themselves what they sum.
-        --add) numbers="self total count closed open points" names="pid tid process thread name file cat scope id args. parent.name parent.args." ;;
+        --add) numbers="self total count longest outer closed open points" names="pid tid process thread name file cat scope id args. parent.name parent.args." ;;
     esac
     case $before in
         --of) mapfile -t COMPREPLY < <(compgen -W "spans async" -- "$word") ;;
         --by) mapfile -t COMPREPLY < <(compgen -W "$numbers" -- "$word") ;;
-        --group-by)
-            # The columns before the last comma stay.
-            columns=${word%"${word##*,}"}
+        --group-by | --numbers)
+            [[ $before == "--numbers" ]] && names=$numbers
+            # What is listed before the last comma stays.
+            listed=${word%"${word##*,}"}
             compopt -o nospace 2>/dev/null
-            mapfile -t COMPREPLY < <(compgen -P "$columns" -W "$names" -- "${word##*,}")
+            mapfile -t COMPREPLY < <(compgen -P "$listed" -W "$names" -- "${word##*,}")
             ;;
         --where)
             compopt -o nospace 2>/dev/null
