@@ -284,7 +284,7 @@ def table_of_text(data):
 def table_of_file(name, data):
     try:
         return table_of_text(data)
-    except (ValueError, KeyError, TypeError, RecursionError):
+    except (ValueError, KeyError, TypeError, AttributeError, RecursionError):
         raise Stopped(f"tracebook: {json_text(name)}: 53 NotTable") from None
 
 
