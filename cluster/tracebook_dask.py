@@ -32,12 +32,12 @@ from typing import Optional
 NAME = "tracebook_dask"
 PROGRAM = "tracebook"
 # The options of the program that have a value, and this command's own, with what their values are called.
-VALUED = {"--limit", "--top", "--by", "--of", "--base", "--jobs", "--group-by", "--where", "--only", "--skip", "--files-from"}
+VALUED = {"--limit", "--top", "--by", "--numbers", "--of", "--base", "--jobs", "--group-by", "--where", "--only", "--skip", "--files-from"}
 OWN = {"--scheduler": "<ADDRESS>", "--workers": "<N>", "--parts": "<FOLDER>"}
 LIST, WHERE = "--files-from", "--where"
 # Those that tables follow from, and those that only the text follows from.
 OF_TABLES = ("--of", WHERE, "--merge-templates", "--limit", "--nanoseconds", "--seal", "--strict")
-OF_TEXT = ("--json", "--top", "--by", "--only", "--skip")
+OF_TEXT = ("--json", "--top", "--by", "--numbers", "--only", "--skip")
 # What is a FILE's own, and the file that standard input is kept in, with one byte more than a trace may have.
 STANDARD_INPUT, GIVEN, MOST_GIVEN = "-", "given", (64 << 20) + 1
 # How the names of traces end that stand for the folder that they are in.
@@ -50,6 +50,9 @@ ARGUMENTS = ("args.", "parent.args.")
 RANKED_BY = "pid,tid,thread,name"
 COMPARED_BY = "process,thread,name"
 ASYNC_BY = "cat,name"
+# The numbers without --numbers, of texts for people and of tables, as the program has them.
+OF_SPANS = ["self", "total", "count"], ["count", "total", "self"]
+OF_ASYNC = ["total", "closed", "open", "points"], ["closed", "total", "open", "points"]
 # A chunk has at most so many bytes, and there are so many chunks at least for each thread of a worker, where there are as many files.
 MOST_BYTES = 256_000_000
 CHUNKS_EACH = 8
@@ -730,16 +733,39 @@ def columns_of(line):
     """The columns of the table that is asked for, as the program has them without --group-by."""
     if line.has("--group-by"):
         return line.value("--group-by")
-    if line.value("--of") == "async":
+    if is_async(line):
         return ASYNC_BY
     return COMPARED_BY if line.has("--base") or line.has("--json") else RANKED_BY
+
+
+def is_async(line):
+    return line.value("--of") == "async"
+
+
+def numbers_of(line):
+    """The numbers of tables, or None where these are the usual ones. If none are named, a text has the one that it goes by in front of its
+    own, where these lack it."""
+    (shown, usual), by = OF_ASYNC if is_async(line) else OF_SPANS, line.value("--by")
+    if line.has("--numbers"):
+        numbers = line.value("--numbers").split(",")
+        return None if numbers == usual else numbers
+    return None if by is None or by in shown else [by, *shown]
+
+
+def flags_of(line, of_files):
+    """The flags that all tables follow from, which these conditions on files are not among."""
+    numbers = numbers_of(line)
+    listed = [f"--numbers={','.join(numbers)}"] if numbers else []
+    shaping = set(line.flags(OF_TABLES)).difference(spelled(WHERE, condition) for condition in of_files)
+    return [f"--group-by={columns_of(line)}", *listed, *sorted(shaping)]
 
 
 def head_of(line):
     """What the head of a file's table has to say."""
     head = {"columns": columns_of(line).split(","), "runs": 1, "files": 1}
-    head["of"] = "async" if line.value("--of") == "async" else None
+    head["of"] = "async" if is_async(line) else None
     head["unit"] = "ns" if line.has("--nanoseconds") else None
+    head["numbers"] = numbers_of(line)
     return head
 
 
@@ -872,9 +898,7 @@ def run(line):
     parts, rest = folder_of_parts(line), os.getcwd() if line.has("--scheduler") else tempfile.gettempdir()
     with room_in([rest] if parts is None else [parts, rest]) as room, client_of(line, room) as client:
         of_files = [condition for condition in line.values(WHERE) if OF_FILE.fullmatch(condition)]
-        shaping = set(line.flags(OF_TABLES)).difference(spelled(WHERE, condition) for condition in of_files)
-        flags = [f"--group-by={columns_of(line)}", *sorted(shaping)]
-        work = Work(os.getcwd(), room, flags, head_of(line), program, parts)
+        work = Work(os.getcwd(), room, flags_of(line, of_files), head_of(line), program, parts)
         sizes, given = sizes_of_parts(work), [keep_given(work)] if any(STANDARD_INPUT in side.names for side in sides) else []
         traces = [list(traces_of(work, side, of_files, sizes, given)) for side in sides]
         return print_text(line, sides, sum_files(client, work, traces))

@@ -16,6 +16,7 @@ BY_NOTHING = ["--json", "--group-by", "name,args.none"]
 CONDITIONS = ["--merge-templates", "--where", "args.detail~1", "--where", "file!=7.json"]
 # What makes a table of another kind than BY_FILE.
 OTHER_KINDS = [["--group-by", "name"], [*BY_FILE[1:], "--nanoseconds"], [*BY_FILE[1:], "--of", "async"]]
+OTHER_KINDS += [[*BY_FILE[1:], "--numbers", "longest"]]
 # What can be under a part's name, and isn't a file.
 NO_FILES = {"a dangling link": lambda path: os.symlink("nowhere", path), "a folder": os.mkdir, "a pipe": os.mkfifo}
 NOBODY = 65534
@@ -87,6 +88,8 @@ def try_parts(bench):
     kept_run(bench, "parts of other conditions are kept", bench.names, words=["--merge-templates", "--where", "args.detail=header_1.h"])
     kept_run(bench, "parts by a column that no span has are kept", bench.names, by=BY_NOTHING)
     kept_run(bench, "parts by a column that no span has are taken", [], words=["--skip", "a"], by=BY_NOTHING)
+    kept_run(bench, "parts with numbers are kept", bench.names, words=["--numbers", "longest,outer,count"])
+    kept_run(bench, "parts with numbers are taken", [], words=["--only", "a", "--numbers", "longest,outer,count"])
     kept_run(bench, "parts of async spans are kept", bench.names, words=["--of", "async"])
     kept_run(bench, "parts of async spans are taken", [], words=["--of", "async", "--only", "a"])
     shutil.rmtree(os.path.join(bench.folder, "parts"))
