@@ -4,7 +4,7 @@ use super::told::told;
 use span_comparisons::{Comparing, json_repeats, repeats};
 use span_event::{Text, Unit};
 use span_names::HashKeys;
-use span_table::{Column, Number, Of, Table};
+use span_table::{Column, Number, Of, Schema, Table};
 use span_table_text::Shown;
 use std::alloc::Global;
 use std::test::Fail;
@@ -28,8 +28,8 @@ const LINES: &str =
 fn table_of_a_file(alloc: Global) -> Option<Table> {
     let file = Text::of(alloc, "x.json").ok()?;
     let ledger = told(alloc, r#"[{"ph":"X","name":"a","ts":0,"dur":5}]"#)?;
-    let (keys, columns) = (HashKeys::fixed(), [Column::File]);
-    let table = Table::of(alloc, keys, Of::Spans, &columns, &ledger, 1, 0, Some(&file));
+    let schema = Schema::usual(alloc, Of::Spans, &[Column::File]).ok()?;
+    let table = Table::of(alloc, HashKeys::fixed(), schema, &ledger, 1, 0, Some(&file));
     drop(ledger);
     table.ok()
 }
@@ -39,6 +39,7 @@ fn a_side_may_have_no_repetitions(rt: HostRuntime) -> Result<(), Fail> {
     let alloc = rt.alloc();
     let one = [table_of_a_file(alloc).ok_or("no table")?];
     let (unit, by, columns) = (Unit::Microseconds, Number::Total, [Column::File]);
+    let schema = Schema::usual(alloc, Of::Spans, &columns)?;
     let all = Shown {
         only: Vec::new(alloc),
         skip: Vec::new(alloc),
@@ -51,7 +52,7 @@ fn a_side_may_have_no_repetitions(rt: HostRuntime) -> Result<(), Fail> {
     };
     let text = repeats(alloc, &columns, &[], &one, &asked)?;
     assert!(rt; text.as_slice() == TEXT.as_bytes());
-    let Ok(lines) = json_repeats(alloc, Of::Spans, &columns, &one, &[], &asked) else {
+    let Ok(lines) = json_repeats(alloc, &schema, &one, &[], &asked) else {
         return Err(Fail::from("no text"));
     };
     assert!(rt; lines.as_slice() == LINES.as_bytes());
