@@ -2,7 +2,9 @@
 use crate::{Condition, Narrowing, narrowed, summed_by};
 use span_event::{ArgValue, Text};
 use span_names::HashKeys;
-use span_table::{Column, EntryCounts, Key, Of, Row, Schema, SumFault, Sums, Table, TableCounts, TableSum};
+use span_table::{
+    Column, EntryCounts, Key, Of, Row, Schema, SumFault, Sums, Table, TableCounts, TableSum,
+};
 use std::alloc::{AllocError, Global};
 use std::test::Fail;
 

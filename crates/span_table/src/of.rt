@@ -18,15 +18,11 @@ impl Of {
         ensures { result.now ≡ usual_numbers audience self }
     {
         match (audience, self) {
-            (Audience::People, Of::Spans) => {
-                &[Number::SelfTime, Number::Total, Number::Count]
-            }
+            (Audience::People, Of::Spans) => { &[Number::SelfTime, Number::Total, Number::Count] }
             (Audience::People, Of::Async) => {
                 &[Number::Total, Number::Closed, Number::Open, Number::Points]
             }
-            (Audience::Programs, Of::Spans) => {
-                &[Number::Count, Number::Total, Number::SelfTime]
-            }
+            (Audience::Programs, Of::Spans) => { &[Number::Count, Number::Total, Number::SelfTime] }
             (Audience::Programs, Of::Async) => {
                 &[Number::Closed, Number::Total, Number::Open, Number::Points]
             }
