@@ -18,6 +18,7 @@ mod text;
 
 pub use fault::StacksFault;
 pub use framed::{StackFrame, framed_stacks};
+pub use frames::put_frame;
 pub use label::SpanColumn;
 pub use labelled::LabelledSpans;
 pub use text::folded;

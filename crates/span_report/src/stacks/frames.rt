@@ -5,9 +5,9 @@ ghost use Rattle.span_report.specs.Stacks.Frames.{frame, frame_byte, owner_frame
 use span_event::Text;
 use std::alloc::{AllocError, Global};
 
-// The name, or `-` where it is empty.
+/// Appends a name as a frame of a line: `-` where it is empty.
 #[tactic(auto, unfolding(crate::specs::Stacks::Frames::frame))]
-pub(crate) fn put_frame(out: &mut Vec<u8>, name: &Text) -> Result<(), AllocError>
+pub fn put_frame(out: &mut Vec<u8>, name: &Text) -> Result<(), AllocError>
     ensures { OnOk result (out.new.items ≡ out.old.items ++ frame name.now) }
 {
     let bytes = name.as_str().as_bytes();
