@@ -5,7 +5,7 @@ use Rattle.span_table.specs.{Adding.{JoinsRuns, TakesRuns, SummedTable, add_tabl
 use Rattle.span_table.proofs.{AddedTables.{add_tables-table_of, counts-same, rows-behind, rows-then}, Alike.{AddUpAlike, AddUpAlike-append, AddUpAlike-refl, summed-alike}, OwnRows.rows_of-own, Rows.RowsRise-rows_of}
 
 -- what is kept is what its own rows come to
-summed-own : (kept : SumsByKey) → RowsRise (map row_of kept) → kept ≡ summed (keyed_rows (map row_of kept))
+pub summed-own : (kept : SumsByKey) → RowsRise (map row_of kept) → kept ≡ summed (keyed_rows (map row_of kept))
 summed-own kept rise = sym (back kept) ∙ ap (map entry) (sym (rows_of-own (map row_of kept) rise)) ∙ back (summed (keyed_rows (map row_of kept)))
   where
     entry : Row → TableKey × Sums
@@ -16,10 +16,11 @@ summed-own kept rise = sym (back kept) ∙ ap (map entry) (sym (rows_of-own (map
     back (e ∷ es) = ap (λ l. e ∷ l) (back es)
 
 -- the rows of what is kept once sums are taken
-rows-taken : (old new : SumsByKey) (more : KeyedSums) → RowsRise (map row_of old) → Takes old new more → map row_of new ≡ rows_of (keyed_rows (map row_of old) ++ more)
+pub rows-taken : (old new : SumsByKey) (more : KeyedSums) → RowsRise (map row_of old) → Takes old new more → map row_of new ≡ rows_of (keyed_rows (map row_of old) ++ more)
 rows-taken old new more rise takes = ap (map row_of) (takes.sums (keyed_rows (map row_of old)) (summed-own old rise))
 
-rise-taken : (old new : SumsByKey) (more : KeyedSums) → RowsRise (map row_of old) → Takes old new more → RowsRise (map row_of new)
+-- keys still rise
+pub rise-taken : (old new : SumsByKey) (more : KeyedSums) → RowsRise (map row_of old) → Takes old new more → RowsRise (map row_of new)
 rise-taken old new more rise takes = subst RowsRise (sym (rows-taken old new more rise takes)) (RowsRise-rows_of (keyed_rows (map row_of old) ++ more))
 
 -- the counts of one table, added, are these

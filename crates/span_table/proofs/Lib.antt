@@ -5,7 +5,7 @@ pub mod Busy
 pub mod ByName
 pub mod Kept
 pub mod KeyPlaces
-pub mod Merged
+pub mod MergedRows
 pub mod Only
 pub mod OwnRows
 pub mod Parents

@@ -123,8 +123,8 @@ AddUpAlike-only set es fs alike = record {
       ∙ only_in-together set (steps_at key_cmp k fs) ∙ sym (ap sums_together (steps-only key_cmp set k fs));
 }
 
--- what is called the same is the same number
-number-called : (n : Number) → number_named (number_name n) ≡ Some n
+-- what is called as a number is it
+pub number-called : (n : Number) → number_named (number_name n) ≡ Some n
 number-called SelfTime = refl
 number-called Total = refl
 number-called Count = refl
@@ -134,6 +134,7 @@ number-called Closed = refl
 number-called Open = refl
 number-called Points = refl
 
+-- what is called the same is the same number
 pub number_name-same : (m n : Number) → number_name m ≡ number_name n → m ≡ n
 number_name-same m n e = let same : Some m ≡ Some n = sym (number-called m) ∙ ap number_named e ∙ number-called n in cc
 

@@ -1,20 +1,24 @@
 -- The table of runs follows from their counts, and from the acts on each process.
 use Rattle.std.specs.{Option.option_map, Ordering.int_eq, Prelude.flat_map}
-use Rattle.std.proofs.{Common.{◌≡◌, ℕ, List, [], ◌∷◌, ◌++◌, map, refl, sym, ap, ◌∙◌, ◌&&◌, ◌||◌, int_lt, Option, Some, None}, lemmas.{List.map-id, Simd.map-map}}
+use Rattle.std.proofs.{Common.{◌≡◌, ℕ, ℤ, List, [], ◌∷◌, ◌++◌, map, refl, sym, ap, ◌∙◌, ◌&&◌, ◌||◌, int_lt, Option, Some, None}, lemmas.{List.map-id, Simd.map-map}}
 use Rattle.span_self_time.proofs.Mapped.{self_time-map}
 use Rattle.span_track.proofs.Threads.Renumbering.{closed_spans-renumbered}
 use Rattle.span_journal.proofs.Topics.{Rows.{rows-follow, values-follow}, Threads.thread_events-alike}
 use Rattle.span_table.proofs.Parents.{is_outer-map, option_map-map, parent_of-map}
 use Rattle.span_keyed_tracks.specs.Async.{AsyncStep, async_spans}
 use Rattle.span_journal.specs.Topics.{of_async}
-use Rattle.span_table.specs.{Words, Thread, Bytes, Entry, ThreadRow, accepted, AsyncRow, AsyncKey, Names, longest_async, thread_keys, thread_row, Timed, timed_in, with_self_times, thread_events, of_process, Rises, renumbered_span, Span, length_of, outranks, closed_spans, is_outer, parent_of, Columns.{Called, async_value_at, value_at}, Laws.{AreAlikeRuns, AreAllAlike, TablesFollowFromActs}, Numbers.set_of, Tables.{Run, Schema, counts_of, called, counts_together, keyed_span, rows_of, run_sums, schema_sums, sums_of, sums_of_async, sums_of_span, thread_sums, with_only}, declared.{column.Column.{Column, TheVariants.{Pid, Tid, Process, Thread as OfThread, Name, File, Cat, Scope, Id, Argument, ParentName, ParentArgument}}, of.Of.{Of, TheVariants.{Spans, Async}}}}
+use Rattle.span_table.specs.{Words, Thread, Bytes, Entry, ThreadRow, accepted, AsyncRow, AsyncKey, Names, longest_async, thread_keys, thread_row, Timed, timed_in, with_self_times, thread_events, of_process, Rises, renumbered_span, Span, length_of, outranks, closed_spans, is_outer, parent_of, Columns.{Called, async_value_at, holder_name, value_at}, Laws.{AreAlikeRuns, AreAllAlike, TablesFollowFromActs}, Numbers.set_of, Tables.{Run, Schema, counts_of, called, counts_together, keyed_span, rows_of, run_sums, schema_sums, sums_of, sums_of_async, sums_of_span, thread_sums, with_only}, declared.{column.Column.{Column, TheVariants.{Pid, Tid, Process, Thread as OfThread, Name, File, Cat, Scope, Id, Argument, ParentName, ParentArgument}}, of.Of.{Of, TheVariants.{Spans, Async}}}}
 
 module _ (run other : Run) (alike : AreAlikeRuns run other) where
+  -- processes and threads have the same names
+  pub holder_name-alike : (pid : ℤ) (tid : Option ℤ) → holder_name run.journal (pid, tid) ≡ holder_name other.journal (pid, tid)
+  holder_name-alike pid tid = ap (λ (n : Names). option_map Words n.name) ((values-follow (of_process pid) run.journal other.journal (alike.journals.acts (of_process pid))).names tid)
+
   value_at-alike : (thread : Thread) (span : Called) (parent : Option Called) (column : Column) → value_at run thread span parent column ≡ value_at other thread span parent column
   value_at-alike thread span parent Pid = refl
   value_at-alike thread span parent Tid = refl
-  value_at-alike thread span parent Process = ap (λ (n : Names). option_map Words n.name) ((values-follow (of_process thread.pid) run.journal other.journal (alike.journals.acts (of_process thread.pid))).names None)
-  value_at-alike thread span parent OfThread = ap (λ (n : Names). option_map Words n.name) ((values-follow (of_process thread.pid) run.journal other.journal (alike.journals.acts (of_process thread.pid))).names (Some thread.tid))
+  value_at-alike thread span parent Process = holder_name-alike thread.pid None
+  value_at-alike thread span parent OfThread = holder_name-alike thread.pid (Some thread.tid)
   value_at-alike thread span parent Name = refl
   value_at-alike thread span parent File = ap (option_map Words) alike.file
   value_at-alike thread span parent Cat = refl
@@ -41,7 +45,8 @@ module _ (run other : Run) (alike : AreAlikeRuns run other) where
   longest_async-alike : (key : AsyncKey) → longest_async run.journal key ≡ longest_async other.journal key
   longest_async-alike key = ap (λ (steps : List AsyncStep). (async_spans steps).longest) (values-follow (of_async key) run.journal other.journal (alike.journals.acts (of_async key)))
 
-  thread_keys-alike : thread_keys (accepted run.journal) ≡ thread_keys (accepted other.journal)
+  -- the same threads are listed
+  pub thread_keys-alike : thread_keys (accepted run.journal) ≡ thread_keys (accepted other.journal)
   thread_keys-alike =
       sym (own run.journal) ∙ ap (map (λ (row : ThreadRow). record { pid = row.pid; tid = row.tid })) (rows-follow run.journal other.journal alike.journals).threads ∙ own other.journal
     where

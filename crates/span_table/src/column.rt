@@ -259,7 +259,8 @@ fn parent_argument_named(alloc: Global, name: &str) -> Result<Option<Column>, Al
     Ok(Some(Column::ParentArgument(Text::of(alloc, key)?)))
 }
 
-fn words_of(alloc: Global, name: Option<&Text>) -> Result<Option<ArgValue>, AllocError>
+/// A text as a value, if there is one. Texts are shared.
+pub fn words_of(alloc: Global, name: Option<&Text>) -> Result<Option<ArgValue>, AllocError>
     ensures { IfOk result (λ value. value ≡ option_map Words (option_copied name.entry)) }
 {
     match name {

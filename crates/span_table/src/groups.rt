@@ -15,7 +15,7 @@ const NEAR: usize = 64;
 
 /// The sums of each key. A contract sees them in ascending order of keys.
 #[derive(Drop)]
-pub(crate) struct Groups {
+pub struct Groups {
     kept: IndexMap<Key, Sums, HashKeys>,
     // Where the last key stood that was there; and where the next one is looked for before it is hashed, if the last came in order, as
     // the keys of tables do that are added.
@@ -35,7 +35,7 @@ impl Model for Groups {
 
 impl Groups {
     /// No sums of any key. Takes no memory.
-    pub(crate) fn new(alloc: Global, keys: HashKeys) -> Groups
+    pub fn new(alloc: Global, keys: HashKeys) -> Groups
         ensures { result ≡ [] }
     {
         Groups {
@@ -46,7 +46,7 @@ impl Groups {
     }
 
     /// No sums of any key, which are hashed by the same keys.
-    pub(crate) fn none_beside(&self) -> Groups
+    pub fn none_beside(&self) -> Groups
         ensures { result ≡ [] }
     {
         Groups::new(*self.kept.allocator(), *self.kept.hasher())
@@ -58,10 +58,23 @@ impl Groups {
             (Takes self.old self.new (record { key = key; step = more } ∷ [])) }
         ensures err { OnErr result (self.new ≡ self.old) }
     {
+        self.put(key, more)?;
+        Ok(())
+    }
+
+    /// Adds sums to those of a key, and says whether there were none.
+    pub fn put(&mut self, key: Key, more: Sums) -> Result<bool, AllocError>
+        ensures takes { OnOk result
+            (Takes self.old self.new (record { key = key; step = more } ∷ [])) }
+        ensures new { IfOk result (λ new. IsTrue new
+            → lookup (is_at (key_cmp key)) self.old ≡ None) }
+        ensures err { OnErr result (self.new ≡ self.old) }
+    {
         if self.add_known(&key, &more)? {
-            return Ok(());
+            return Ok(false);
         }
-        self.insert(key, more)
+        self.insert(key, more)?;
+        Ok(true)
     }
 
     /// Adds sums to those of a key, of which a copy is kept if it is new.
@@ -108,7 +121,7 @@ impl Groups {
     }
 
     /// The keys in ascending order, with the sums of each.
-    pub(crate) fn into_rows(self) -> Result<Vec<Row>, AllocError>
+    pub fn into_rows(self) -> Result<Vec<Row>, AllocError>
         ensures rows { IfOk result (λ rows. rows.items ≡ map row_of self) }
         ensures rise { IfOk result (λ rows. RowsRise rows.items) }
     {

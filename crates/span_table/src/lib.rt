@@ -22,9 +22,11 @@ mod table_sum;
 mod wide;
 
 pub use audience::Audience;
-pub use column::{Column, copies_of, copy_of};
+pub use column::{Column, copies_of, copy_of, words_of};
 pub use counts::{EntryCounts, TableCounts, counts_fit};
+pub use groups::Groups;
 pub use key::Key;
+pub use merging::merged;
 pub use number::{Number, are_same, has_number};
 pub use number_set::NumberSet;
 pub use of::Of;

@@ -9,7 +9,7 @@ use std::cmp::Ordering;
 use std::collections::VecDeque;
 
 /// The rows of both lists in order: two of the same key are added. Each row is moved once.
-pub(crate) fn merged(rows: Vec<Row>, more: Vec<Row>) -> Result<Vec<Row>, AllocError>
+pub fn merged(rows: Vec<Row>, more: Vec<Row>) -> Result<Vec<Row>, AllocError>
     requires rise { RowsRise rows.items }
     requires others { RowsRise more.items }
     ensures rows { IfOk result (λ all.

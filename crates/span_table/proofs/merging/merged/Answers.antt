@@ -1,6 +1,6 @@
 use Rattle.std.proofs.{Common.{◌≡◌, ◌++◌, [], sym, ap, subst, ◌∙◌, arith}, lemmas.{Grind.common_steps, List.{append-nil, nil_from_length}}}
 use Rattle.span_table.specs.{Adding.keyed_rows, Tables.{RowsRise, rows_of}}
-use Rattle.span_table.proofs.{Merged.merged-rows_of, OwnRows.rows_of-own, Rows.RowsRise-rows_of}
+use Rattle.span_table.proofs.{MergedRows.merged-rows_of, OwnRows.rows_of-own, Rows.RowsRise-rows_of}
 use Rattle.span_table.proofs.merging.merged.Goals as goal
 
 pub returns-then-is_empty-clause-rows : goal.returns-then-is_empty-clause-rows

@@ -1,6 +1,6 @@
 use Rattle.std.proofs.Common.{sym, ap, ◌∙◌}
 use Rattle.span_table.specs.Merging.{heads_cmp, merged}
-use Rattle.span_table.proofs.Merged.{merged-less}
+use Rattle.span_table.proofs.MergedRows.{merged-less}
 use Rattle.span_table.proofs.merging.next_row.Goals as goal
 
 pub returns-in-Less-clause-rows : goal.returns-in-Less-clause-rows
