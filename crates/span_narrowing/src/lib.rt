@@ -13,4 +13,4 @@ pub use conditions::Condition;
 pub use narrowing::{Narrowing, narrowed, summed_by};
 pub use span_event::Text;
 pub use span_names::HashKeys;
-pub use span_table::{Column, Table};
+pub use span_table::{Column, Schema, Table};

@@ -1,6 +1,6 @@
 //! Tables that are narrowed.
 ghost use Rattle.std.specs.Prelude.{◌≡◌, [], IfOk};
-ghost use Rattle.span_narrowing.specs.Narrowed.{is_plain, narrowed, shown_with, summed_by};
+ghost use Rattle.span_narrowing.specs.Narrowed.{is_plain, narrowed, shown_schema, shown_with, summed_by};
 
 use crate::conditions::Condition;
 use crate::keys::narrowed_key;
@@ -22,6 +22,15 @@ impl Narrowing {
         ensures { result ≡ is_plain self.now }
     {
         self.conditions.is_empty() && !self.merges
+    }
+
+    /// The schema of a table of this one once it is narrowed: without the columns that conditions test.
+    pub fn shown_schema(&self, alloc: Global, schema: &Schema) -> Result<Schema, AllocError>
+        ensures { IfOk result (λ shown. shown ≡ shown_schema self.now schema.now) }
+    {
+        let columns = schema.columns.as_slice();
+        let shown = columns.len().saturating_sub(self.conditions.len());
+        Schema::new(alloc, schema.of, &columns[..shown], &schema.numbers)
     }
 }
 
@@ -75,11 +84,8 @@ fn begun(
 ) -> Result<TableSum, AllocError>
     ensures { IfOk result (λ sum. sum.table ≡ shown_with narrowing.now table.now []) }
 {
-    let schema = table.schema();
-    let columns = schema.columns.as_slice();
-    let shown = columns.len().saturating_sub(narrowing.conditions.len());
-    let of_shown = Schema::new(alloc, schema.of, &columns[..shown], &schema.numbers)?;
-    let mut sum = TableSum::new(alloc, keys, of_shown);
+    let schema = narrowing.shown_schema(alloc, table.schema())?;
+    let mut sum = TableSum::new(alloc, keys, schema);
     match sum.add_counts(&table.counts()) {
         Ok(()) => Ok(sum),
         Err(SumFault::Memory) => Err(AllocError),

@@ -4,7 +4,7 @@ ghost use Rattle.span_runs.specs.declared.stop.Halt.TheVariants.{Memory};
 ghost use Rattle.span_tasks.specs.{AreGathered, GathersOrStops, IsHint, shortened, OfStop, StopsAmong, run_of_files, table_of_run, warnings_of, Sides.{AreOptions, ComeTo, IsNarrowed, IsOfRun}, Summed.summed_of, Together.StopsTogether};
 
 use crate::place::Place;
-use crate::summed::{shown_schema, summed_of};
+use crate::summed::summed_of;
 use crate::together::TogetherRun;
 use span_collect::Settings;
 use span_collect::refusals::warnings_of;
@@ -244,7 +244,7 @@ impl<'a, R: Threads + Wait + RandomSource + Sync, S: Source + Sync> Place<'a, R,
     {
         let narrowing = &options.narrowing;
         let keys = HashKeys::random(self.rt);
-        let schema = shown_schema(self.alloc, narrowing, &side.schema)?;
+        let schema = narrowing.shown_schema(self.alloc, &side.schema)?;
         let mut tables = Vec::with_capacity(self.alloc, side.tables.len())?;
         for table in side.tables {
             tables.push(narrowed(self.alloc, keys, narrowing, table)?)?;

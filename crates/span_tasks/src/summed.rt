@@ -1,8 +1,8 @@
 //! The schemas by which tables are gathered, and what conditions test.
 ghost use Rattle.std.specs.Prelude.{◌≡◌, IfOk};
-ghost use Rattle.span_tasks.specs.{shown_schema, Summed.{summed_of, tested_in}};
+ghost use Rattle.span_tasks.specs.Summed.{summed_of, tested_in};
 
-use span_narrowing::{Narrowing, summed_by};
+use span_narrowing::summed_by;
 use span_request::TableOptions;
 use span_table::{Audience, Column, Schema};
 use std::alloc::{AllocError, Global};
@@ -19,19 +19,6 @@ pub(crate) fn summed_of(alloc: Global, options: &TableOptions) -> Result<Schema,
             .numbers
             .shown(alloc, of, of.numbers(Audience::Programs))?,
     })
-}
-
-/// That of a table of this one once it is narrowed: without the columns that conditions test.
-pub(crate) fn shown_schema(
-    alloc: Global,
-    narrowing: &Narrowing,
-    schema: &Schema,
-) -> Result<Schema, AllocError>
-    ensures { IfOk result (λ shown. shown ≡ shown_schema narrowing.now schema.now) }
-{
-    let columns = schema.columns.as_slice();
-    let shown = columns.len().saturating_sub(narrowing.conditions.len());
-    Schema::new(alloc, schema.of, &columns[..shown], &schema.numbers)
 }
 
 /// The columns that conditions test.
