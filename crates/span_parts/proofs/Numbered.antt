@@ -3,8 +3,8 @@ use Rattle.std.specs.{Cmp.Lexicographic.bytes_decides, Prelude.All, Str.bytes_eq
 use Rattle.std.proofs.{Common.{◌≡◌, ◌≢◌, ◌||◌, Bool, true, false, cond, true≢false, Some, arith, codes, length, List, [], ◌∷◌, ◌++◌, append_assoc, map, refl, sym, ap, subst, ◌∙◌}, lemmas.{Bool.or_parts, List.Elements.{All-cons, All-head, All-nil, All-tail}}}
 use Rattle.json.specs.Token.{Token, begin_array, end_array, key, string}
 use Rattle.span_table.specs.Numbers.{number_named}
-use Rattle.span_table.proofs.Only.{are_same-same}
-use Rattle.span_parts.specs.{Bytes, Number, SelfTime, Total, Count, Longest, Outer, Closed, Open, Points, Programs, Schema, AreDistinct, are_same, has_number, list_tokens, number_name, usual_numbers, Guess.MayFollowNumbers}
+use Rattle.span_table.proofs.Only.{are_same-same, number-called}
+use Rattle.span_parts.specs.{Bytes, Number, Programs, Schema, AreDistinct, are_same, has_number, list_tokens, number_name, usual_numbers, Guess.MayFollowNumbers}
 
 -- a number that is not among others has another name than each
 pub differs-all : (n : Number) (numbers : List Number) → has_number numbers n ≡ false → All (λ name. number_name n ≢ name) (map number_name numbers)
@@ -37,17 +37,6 @@ next-new (m ∷ numbers) later n distinct = by (bytes_eq (number_name m) (number
     by : (b : Bool) → bytes_eq (number_name m) (number_name n) ≡ b → has_number numbers n ≡ false → (b || has_number numbers n) ≡ false
     by true e rest = absurd (at numbers distinct.0 ((bytes_decides (number_name m) (number_name n)).0 e))
     by false e rest = rest
-
--- what is called as a number is it
-pub number-called : (n : Number) → number_named (number_name n) ≡ Some n
-number-called SelfTime = refl
-number-called Total = refl
-number-called Count = refl
-number-called Longest = refl
-number-called Outer = refl
-number-called Closed = refl
-number-called Open = refl
-number-called Points = refl
 
 -- a name that comes next is that of the first of some numbers
 pub record NextNumber (numbers later : List Number) (name : Bytes) (more rest : List Token) : Type 0 where
