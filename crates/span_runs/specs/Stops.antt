@@ -1,6 +1,6 @@
 -- Why files were not all gathered, and what is said of it.
 use Rattle.std.specs.Prelude.{◌≡◌, ◌⊎◌, ℕ, ◌+◌, ◌≤◌, ◌^◌, List, [], ◌∷◌, ◌++◌, flat_map, length, All, Option, Some, None, Result, MatchResult}
-use Rattle.span_runs.specs.{Bytes, FileCount, number_of, code_of, Entry, Cause, FileEnd, Input, Asked, RunError, Sealing, Settings, end_lines, fault_line, IsHint, run_line, unread_line, IsNotCollected, run_code, status_of, SealedAccount, Schema, Run, Apart.{AddsFile, GathersFiles, IsAccounted}, Inputs.{AreInputs, IsInput}, Runs.shortened, Said.refusal_line, Source.{SourceBytes, printed}, declared.{gathered.Gathered.Gathered, source.Name.Name, stop.Halt.{Halt, TheVariants.{Stopped, Memory}}}}
+use Rattle.span_runs.specs.{Bytes, FileCount, number_of, code_of, Entry, Cause, FileEnd, Input, Asked, RunError, Sealing, Settings, end_lines, fault_line, IsHint, run_line, unread_line, IsNotCollected, run_code, status_of, SealedAccount, Run, Apart.{AddsFile, GathersFiles, IsAccounted}, Inputs.{AreInputs, IsInput}, Runs.shortened, Said.refusal_line, Source.{SourceBytes, printed}, declared.{gathered.Gathered.Gathered, source.Name.Name, stop.Halt.{Halt, TheVariants.{Stopped, Memory}}}}
 
 -- what is said of a stop, perhaps with hints behind it; nothing is known where memory was refused
 abbrev pub OfStop : (Bytes → Type 0) → Halt → Type 0
@@ -88,7 +88,7 @@ abbrev pub AddsOrStops : {T : Type 0} → SourceBytes → Name → Settings → 
 AddsOrStops source name settings ComeTo old result = MatchResult result (AddsFile source name settings ComeTo old) (OfStop (StopsAfter source name settings ComeTo old))
 
 -- where this is what becomes of files of these names, and that of files of those, the result is what becomes of them together
-abbrev pub JoinsFiles : {T : Type 0} → (Schema → List Run → T → Type 0) → Result (Gathered T) Halt → Result (Gathered T) Halt → Result (Gathered T) Halt → Type 0
-JoinsFiles ComeTo first second both = (source : SourceBytes) (names more : List Name) (settings : Settings) (schema : Schema) →
-    (cut : ℕ) → GathersOrStops source names settings (shortened cut (ComeTo schema)) first → GathersOrStops source more settings (shortened cut (ComeTo schema)) second
-    → GathersOrStops source (names ++ more) settings (shortened cut (ComeTo schema)) both
+abbrev pub JoinsFiles : {B T : Type 0} → (B → List Run → T → Type 0) → Result (Gathered T) Halt → Result (Gathered T) Halt → Result (Gathered T) Halt → Type 0
+JoinsFiles {B} ComeTo first second both = (source : SourceBytes) (names more : List Name) (settings : Settings) (by : B) →
+    (cut : ℕ) → GathersOrStops source names settings (shortened cut (ComeTo by)) first → GathersOrStops source more settings (shortened cut (ComeTo by)) second
+    → GathersOrStops source (names ++ more) settings (shortened cut (ComeTo by)) both

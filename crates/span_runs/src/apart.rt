@@ -11,7 +11,6 @@ use crate::source::{Name, Source, jobs_for, sizes_of};
 use crate::stop::Halt;
 use span_collect::Settings;
 use span_names::HashKeys;
-use span_table::Schema;
 use std::alloc::Global;
 use std::random::RandomSource;
 use std::sync::Wait;
@@ -19,30 +18,31 @@ use std::thread::Threads;
 
 // What the jobs have in common.
 #[derive(Drop)]
-struct FileWork<'a, S> {
+struct FileWork<'a, S, B> {
     alloc: Global,
     source: &'a S,
     settings: Settings,
     keys: HashKeys,
-    schema: &'a Schema,
+    // By what runs are summed.
+    by: &'a B,
     // How many bytes of each name the column of files leaves out.
     cut: usize,
     stopped: &'a Stopped,
 }
 
-/// Reads these files one after another, in so many jobs at once, collects each as a run of its own, and gathers their tables, which have
-/// this schema. The first file that stops, in the order of the names, decides.
+/// Reads these files one after another, in so many jobs at once, collects each as a run of its own, and gathers what they come
+/// to, summed by this. The first file that stops, in the order of the names, decides.
 pub fn gather_apart<T: Gathering, S: Source + Sync, R: Threads + Wait + RandomSource + Sync>(
     rt: &R,
     alloc: Global,
     source: &S,
     files: &Listed,
     settings: &Settings,
-    schema: &Schema,
+    by: &T::By,
     jobs: u32,
 ) -> Result<Gathered<T>, Halt>
     ensures { GathersOrStops (S.bytes source.now) files.now.names.items settings.now
-        (shortened files.now.cut (T.come_to schema.now)) result }
+        (shortened files.now.cut (T.come_to by.now)) result }
 {
     let names = files.names.as_slice();
     let Ok(sizes) = sizes_of(alloc, source, names) else {
@@ -54,7 +54,7 @@ pub fn gather_apart<T: Gathering, S: Source + Sync, R: Threads + Wait + RandomSo
         source,
         settings: *settings,
         keys: HashKeys::random(rt),
-        schema,
+        by,
         cut: files.cut,
         stopped: &stopped,
     };
@@ -64,20 +64,20 @@ pub fn gather_apart<T: Gathering, S: Source + Sync, R: Threads + Wait + RandomSo
 // Gathers these files, which are thought to be so large, in so many jobs.
 fn gather_in_jobs<T: Gathering, S: Source + Sync, R: Threads + Wait + RandomSource + Sync>(
     rt: &R,
-    work: &FileWork<S>,
+    work: &FileWork<S, T::By>,
     names: &[Name],
     sizes: &[u64],
     jobs: u32,
 ) -> Result<Gathered<T>, Halt>
     requires { length sizes.now ≡ length names.now }
     ensures { GathersOrStops (S.bytes work.now.source.now) names.now
-        work.now.settings (shortened work.now.cut (T.come_to work.now.schema.now)) result }
+        work.now.settings (shortened work.now.cut (T.come_to work.now.by.now)) result }
 {
     let take = move |from: usize, to: usize| -> Result<Gathered<T>, Halt>
         requires { (from ≤ to) × (to ≤ length names.now) }
         ensures { GathersOrStops (S.bytes work.entry.now.source.now)
             (places from to names.entry.now) work.entry.now.settings
-            (shortened work.entry.now.cut (T.come_to work.entry.now.schema.now)) result }
+            (shortened work.entry.now.cut (T.come_to work.entry.now.by.now)) result }
     { gather_in_job(rt, work, &names[from..to], from as u64) };
     let alloc = work.alloc;
     let join = move |first, second| -> Result<Gathered<T>, Halt>
@@ -89,15 +89,14 @@ fn gather_in_jobs<T: Gathering, S: Source + Sync, R: Threads + Wait + RandomSour
 // Gathers the files from this place on, one after another, unless one before has stopped in another job.
 fn gather_in_job<T: Gathering, S: Source, R: Threads + Wait + RandomSource + Sync>(
     rt: &R,
-    work: &FileWork<S>,
+    work: &FileWork<S, T::By>,
     names: &[Name],
     place: u64,
 ) -> Result<Gathered<T>, Halt>
     ensures { GathersOrStops (S.bytes work.now.source.now) names.now work.now.settings
-        (shortened work.now.cut (T.come_to work.now.schema.now)) result }
+        (shortened work.now.cut (T.come_to work.now.by.now)) result }
 {
-    let (alloc, keys, schema) = (work.alloc, work.keys, work.schema);
-    let Ok(none) = Gathered::of_none(alloc, keys, schema) else {
+    let Ok(none) = Gathered::of_none(work.alloc, work.keys, work.by) else {
         return Err(Halt::Memory);
     };
     let mut gathered: Gathered<T> = none;
@@ -125,12 +124,12 @@ fn gather_in_job<T: Gathering, S: Source, R: Threads + Wait + RandomSource + Syn
 // With the file of this name.
 fn add_file<T: Gathering, S: Source, R: Threads + Wait + RandomSource + Sync>(
     rt: &R,
-    work: &FileWork<S>,
+    work: &FileWork<S, T::By>,
     name: &Name,
     gathered: Gathered<T>,
 ) -> Result<Gathered<T>, Halt>
     ensures { AddsOrStops (S.bytes work.now.source.now) name.now work.now.settings
-        (shortened work.now.cut (T.come_to work.now.schema.now)) gathered result }
+        (shortened work.now.cut (T.come_to work.now.by.now)) gathered result }
 {
     let collected = match collect_file(rt, work.alloc, work.source, name, &work.settings) {
         Ok(collected) => collected,
@@ -142,7 +141,7 @@ fn add_file<T: Gathering, S: Source, R: Threads + Wait + RandomSource + Sync>(
     let Ok(collected) = collected.shorter(work.alloc, work.cut) else {
         return Err(Halt::Memory);
     };
-    match gathered.with_run(work.alloc, work.keys, work.schema, &collected) {
+    match gathered.with_run(work.alloc, work.keys, work.by, &collected) {
         Ok(more) => Ok(more),
         Err(halt) => Err(halt),
     }

@@ -1,32 +1,37 @@
-//! What the runs of files come to, as they are collected one by one: one table of all, or a table of each.
+//! What the runs of files come to, as they are collected one by one: one table of all, a table of each, or the stacks of all.
 ghost use Rattle.std.specs.Prelude.{◌≡◌, ◌+◌, ◌≤◌, ◌^◌, ◌++◌, [], List, length, IfErr, IfOk};
-ghost use Rattle.span_runs.specs.{Schema as TheSchema, Run, TooMany, Apart.run_of, Gathering.TakesAlike};
+ghost use Rattle.span_runs.specs.{Run, TooMany, Apart.run_of, Gathering.TakesAlike};
 
 use crate::file_run::FileRun;
 use span_names::HashKeys;
+use span_report::stacks::SpanColumn;
+use span_stack_sums::StackSum;
 use span_table::{Schema, SumFault, Table, TableSum};
 use std::alloc::{AllocError, Global};
 
 /// What the runs of files come to. A fault loses what was handed over.
 pub trait Gathering: Sized + Drop + Send {
-    ghost come_to: { TheSchema → List Run → Self → Type 0 };
+    /// By what runs are summed.
+    type By: Drop + Sync;
 
-    /// What no runs come to, whose tables are to have this schema. Maps that files fill are hashed by these keys.
-    fn of_none(alloc: Global, keys: HashKeys, schema: &Schema) -> Result<Self, AllocError>
-        ensures { IfOk result (come_to schema.now []) };
+    ghost come_to: { Self.By → List Run → Self → Type 0 };
+
+    /// What no runs come to. Maps that files fill are hashed by these keys.
+    fn of_none(alloc: Global, keys: HashKeys, by: &Self::By) -> Result<Self, AllocError>
+        ensures { IfOk result (come_to by.now []) };
 
     /// With one run more, or any that is alike.
     fn with_run(
         self,
         alloc: Global,
         keys: HashKeys,
-        schema: &Schema,
+        by: &Self::By,
         run: &FileRun,
     ) -> Result<Self, SumFault>
         ensures runs { IfOk result (λ more.
-            TakesAlike (come_to schema.now) self (run_of run.now) more) }
+            TakesAlike (come_to by.now) self (run_of run.now) more) }
         ensures too_many { IfErr result (λ fault. fault ≡ TooMany → (runs : List Run)
-            → come_to schema.now runs self → 2 ^ 32 ≤ length runs + 1) };
+            → come_to by.now runs self → 2 ^ 32 ≤ length runs + 1) };
 
     /// The same, made ready to be joined with another.
     fn in_order(self) -> Result<Self, AllocError>
@@ -38,18 +43,20 @@ pub trait Gathering: Sized + Drop + Send {
     /// With the runs of another, which come after these.
     fn joined(self, other: Self) -> Result<Self, SumFault>
         ensures runs { IfOk result (λ both.
-            (schema : TheSchema) (runs others : List Run)
-            → come_to schema runs self → come_to schema others other
-            → come_to schema (runs ++ others) both) }
+            (by : Self.By) (runs others : List Run)
+            → come_to by runs self → come_to by others other
+            → come_to by (runs ++ others) both) }
         ensures too_many { IfErr result (λ fault. fault ≡ TooMany
-            → (schema : TheSchema) (runs others : List Run)
-            → come_to schema runs self → come_to schema others other
+            → (by : Self.By) (runs others : List Run)
+            → come_to by runs self → come_to by others other
             → 2 ^ 32 ≤ length runs + length others) };
 }
 
 /// One table of all.
 impl Gathering for TableSum {
     ghost use Rattle.span_runs.specs.{IsSumOf};
+
+    type By = Schema;
 
     ghost come_to = { IsSumOf };
 
@@ -85,6 +92,8 @@ impl Gathering for TableSum {
 /// A table of each, in their order.
 impl Gathering for Vec<Table> {
     ghost use Rattle.span_runs.specs.Gathering.{AreTablesOf};
+
+    type By = Schema;
 
     ghost come_to = { λ schema runs tables. AreTablesOf schema runs tables.items };
 
@@ -127,5 +136,40 @@ impl Gathering for Vec<Table> {
             Ok(()) => Ok(tables),
             Err(_) => Err(SumFault::Memory),
         }
+    }
+}
+
+/// The stacks of all, whose frames are labels by some columns.
+impl Gathering for StackSum {
+    ghost use Rattle.span_runs.specs.{IsStackSum};
+
+    type By = Vec<SpanColumn>;
+
+    ghost come_to = { λ columns. IsStackSum columns.items };
+
+    fn of_none(
+        alloc: Global,
+        keys: HashKeys,
+        _columns: &Vec<SpanColumn>,
+    ) -> Result<StackSum, AllocError> {
+        Ok(StackSum::new(alloc, keys))
+    }
+
+    fn with_run(
+        self,
+        alloc: Global,
+        _keys: HashKeys,
+        columns: &Vec<SpanColumn>,
+        run: &FileRun,
+    ) -> Result<StackSum, SumFault> {
+        self.add_run(alloc, &run.collected.ledger, columns)
+    }
+
+    fn in_order(self) -> Result<StackSum, AllocError> {
+        self.in_order()
+    }
+
+    fn joined(self, other: StackSum) -> Result<StackSum, SumFault> {
+        self.join(other)
     }
 }

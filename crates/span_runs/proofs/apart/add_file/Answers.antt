@@ -11,7 +11,7 @@ returns-in-Ok-with_run g c =
     let work = c.args.work.now in
     let run = c.in-Ok-shorter.collected in
     let shorter = c.in-Ok-shorter.ensures in
-    AddsFile-run source name work.settings work.cut (g.T.Gathering.come_to work.schema.now) run c.args.gathered c.in-Ok-with_run.more
+    AddsFile-run source name work.settings work.cut (g.T.Gathering.come_to work.by.now) run c.args.gathered c.in-Ok-with_run.more
     (IsFileRun-shorter source name work.settings work.cut c.in-Ok.collected run c.in-Ok.ensures.collected shorter) (shorter.label ∙ ap (λ (file : Input). drop work.cut file.name) (sym shorter.file))
     c.in-Ok-with_run.ensures.runs c.in-Ok-with_run.ensures.said
 
@@ -23,4 +23,4 @@ returns-in-Err g c =
 
 -- there are too many
 pub returns : goal.returns
-returns g c = OfStop-weaker _ _ (λ lines many. inr (IsTooMany-shortened c.args.work.now.cut (g.T.Gathering.come_to c.args.work.now.schema.now) c.args.gathered.runs 1 c.args.gathered.said.lines.items lines many)) c.in-Err-with_run.halt c.in-Err-with_run.ensures.stop
+returns g c = OfStop-weaker _ _ (λ lines many. inr (IsTooMany-shortened c.args.work.now.cut (g.T.Gathering.come_to c.args.work.now.by.now) c.args.gathered.runs 1 c.args.gathered.said.lines.items lines many)) c.in-Err-with_run.halt c.in-Err-with_run.ensures.stop
