@@ -5,7 +5,7 @@ use Rattle.span_options.specs.Laws.{HasOnlyFiles, PlainWordsNameFiles, is_plain}
 use Rattle.span_options.specs.Parsing.{fault, is_shown}
 use Rattle.span_options.specs.declared.parsing.Parsed.TheVariants as parsed
 use Rattle.span_request.specs.{Bytes, Options, ParsesTo, Spans, is_standard, Asked.Asked, Columns.alike, Laws.{IsReport, PlainWordsAskForReports, default_settings}, Request.{AreSound, AsksFor, IsOf}, Rules.standard_uses, Tasks.settings_of, Texts.prints_table}
-use Rattle.span_request.specs.declared.tasks.{Request.{Request, TheVariants.{Refuse, Run, Show}}, Task.TheVariants.{Collect, Pages, Tabulate}}
+use Rattle.span_request.specs.declared.tasks.{Request.{Request, TheVariants.{Refuse, Run, Show}}, Task.TheVariants.{Collect, Pages, Stacks, Tabulate}}
 use Rattle.span_request.specs.declared.views.View.TheVariants.{Folded, Page, Refusals, Report}
 
 -- words that begin with no hyphen don't stand for standard input
@@ -63,6 +63,7 @@ of_options words options plain only (Run (Collect settings Refusals) files) is =
 of_options words options plain only (Run (Collect settings (Folded labels)) files) is = true≢false (sym is.0.2.2.0 ∙ only.folded)
 of_options words options plain only (Run (Collect settings (Page view)) files) is = true≢false (sym is.0.2.2.0 ∙ only.page)
 of_options words options plain only (Run (Pages settings jobs view) files) is = true≢false (sym is.0.2.0 ∙ ap₂ (λ a b. a && b) only.page only.apart)
+of_options words options plain only (Run (Stacks settings jobs labels) files) is = true≢false (sym is.0.2.0 ∙ ap₂ (λ a b. a && b) only.folded only.apart)
 of_options words options plain only (Run (Tabulate tables) files) is = true≢false (sym is.0.2.0 ∙ no_table words options only)
 of_options words options plain only (Show text) is = absurd is
 of_options words options plain only (Refuse text) is = absurd (is usual (sound words options plain only))

@@ -56,7 +56,7 @@ idle options =
     ∷ (are_given options.only.items && not (has_table options))
     ∷ (are_given options.skip.items && not (has_table options))
     ∷ (options.add && not (prints_table options))
-    ∷ (options.apart && not (has_table options))
+    ∷ (options.apart && not (has_table options || options.folded))
     ∷ (options.repeats && not (are_given options.base.items))
     ∷ (is_some options.jobs && not (takes_apart options))
     ∷ []

@@ -1,7 +1,7 @@
 -- The task that the options ask for, of such a table.
 use Rattle.std.specs.{Prelude.{◌≡◌, ◌&&◌, ◌||◌, if◌then◌else◌, ℕ, Bool, true, false, List, [], ◌∷◌, Option, Some, None, filter_map, is_some, map, unwrap_or}, Option.option_map_or}
 use Rattle.span_request.specs.{Argument, Column, Microseconds, Name, Named, Nanoseconds, Narrowing, Options, Settings, SpanColumn, AskedNumbers, names_of, Asked.Asked, Numbers.by_of, Rules.takes_apart, Texts.{are_given, audience_of, most_rows, prints_table}}
-use Rattle.span_request.specs.declared.tasks.{Items.{Items, TheVariants.{Apart, Printed, Together}}, TableText.{TableText, TheVariants.{Changes, Repetitions, Table}}, Task.{Task, TheVariants.{Collect, Pages, Tabulate}}}
+use Rattle.span_request.specs.declared.tasks.{Items.{Items, TheVariants.{Apart, Printed, Together}}, TableText.{TableText, TheVariants.{Changes, Repetitions, Table}}, Task.{Task, TheVariants.{Collect, Pages, Stacks, Tabulate}}}
 use Rattle.span_request.specs.declared.views.{ComparisonForm.ComparisonForm, PageView.PageView, RepeatsForm.RepeatsForm, TableForm.{TableForm, TheVariants.{Json, Ranking}}, TableOptions.TableOptions, View.{View, TheVariants.{Folded, Page, Refusals, Report}}}
 use Rattle.span_report.specs.declared.stacks.label.SpanColumn.TheVariants as label
 use Rattle.span_request.specs.declared.views.ComparisonForm.TheVariants as changes
@@ -99,9 +99,11 @@ IsText options (Repetitions of) =
 
 abbrev pub IsTask : Options → Asked → Task → Type 0
 IsTask options asked (Collect settings view) =
-    ((prints_table options || (options.page && options.apart)) ≡ false) × (settings ≡ settings_of options) × IsView options asked view
+    ((prints_table options || (options.apart && (options.page || options.folded))) ≡ false) × (settings ≡ settings_of options) × IsView options asked view
 IsTask options asked (Pages settings jobs view) =
     ((options.page && options.apart) ≡ true) × (settings ≡ settings_of options) × (jobs ≡ options.jobs) × IsPageView options asked view
+IsTask options asked (Stacks settings jobs labels) =
+    ((options.folded && options.apart) ≡ true) × (settings ≡ settings_of options) × (jobs ≡ options.jobs) × (labels.items ≡ asked_labels options asked.columns)
 IsTask options asked (Tabulate tables) =
     (prints_table options ≡ true) × (tables.items ≡ items_of options) × (tables.jobs ≡ options.jobs) × IsOptions options asked tables.options
     × IsText options tables.text

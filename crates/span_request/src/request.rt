@@ -81,6 +81,14 @@ fn task_of(alloc: Global, options: &Options, summed: Summed) -> Result<Task, All
             view,
         });
     }
+    if options.folded & options.apart {
+        let labels = asked_labels(alloc, options, &summed.columns)?;
+        return Ok(Task::Stacks {
+            settings,
+            jobs,
+            labels,
+        });
+    }
     if !prints_table(options) {
         let view = view_of(alloc, options, summed)?;
         return Ok(Task::Collect { settings, view });

@@ -200,8 +200,8 @@ fn idle_rule(options: &Options) -> Option<&'static str>
             "the argument '--add' goes with '--top <N>', '--json' and '--base <FILE>' alone",
         ),
         Rule(
-            options.apart & !has_table(options),
-            "the argument '--apart' goes with '--top <N>', '--json', '--base <FILE>' and '--page' alone",
+            options.apart & !(has_table(options) | options.folded),
+            "the argument '--apart' goes with '--top <N>', '--json', '--base <FILE>', '--folded' and '--page' alone",
         ),
         Rule(
             options.repeats & !base,

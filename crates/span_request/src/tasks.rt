@@ -2,6 +2,7 @@
 
 use crate::views::{ComparisonForm, PageView, RepeatsForm, TableForm, TableOptions, View};
 use span_collect::Settings;
+use span_report::stacks::SpanColumn;
 use span_runs::{Name, Named};
 
 /// What a command line asks for.
@@ -28,6 +29,13 @@ pub enum Task {
         settings: Settings,
         jobs: Option<u32>,
         view: PageView,
+    },
+    /// Collect each as a run of its own, in so many jobs at once, and print their folded stacks, added. Frames are labels by these
+    /// columns.
+    Stacks {
+        settings: Settings,
+        jobs: Option<u32>,
+        labels: Vec<SpanColumn>,
     },
     /// Gather tables, and print this of them.
     Tabulate(Tabulation),
