@@ -8,7 +8,7 @@ use Rattle.span_table_text.proofs.{Determined.prints-determined, RunTables.{show
 use Rattle.span_table.specs.{Columns.column_name, Tables.schema_sums, Adding.{add_tables, chosen_from}, declared.table.Row.Row}
 use Rattle.span_parts.proofs.{Places.picked-at, PrintedSums.sum-HasRows, RunSums.{sum-runs, sum-shown}}
 use Rattle.span_request.specs.declared.tasks.Items.TheVariants.{Printed}
-use Rattle.span_tasks.specs.{Bytes, Settings, run_alone, run_of_files, shorter, Chooses, Column, IsPart, IsPrint, Listed, Name, PartSum, Run, Schema, SumsParts, SourceBytes, TimeUnit, SpanTable, TableOptions, Narrowing, Wanted, is_plain, narrowed, schema_by, shown_table, table_of, chosen, AreParts, Added.{AreOfFirst, IsText, most_added, with_sum}, Summed.{asked_of, schema_of, summed_of, tested_in}, Tabulations.MakesJson, Fleet.{AreRunsOf, AreRunsOfEach, Fleet, Fleets, FleetsLoseNothing, FleetsPrintAlike, KeepsColumns, PrintEach, ShowEach, TableKind, all_rows, asked_schema, kind_of, kind_of_first, more, of_files, of_printed, one}}
+use Rattle.span_tasks.specs.{Bytes, Settings, run_alone, run_of_files, shorter, Chooses, IsPart, IsPrint, Listed, Name, PartSum, Run, Schema, SumsParts, SourceBytes, TimeUnit, SpanTable, TableOptions, Narrowing, Wanted, is_plain, narrowed, schema_by, shown_table, table_of, chosen, AreParts, Added.{AreOfFirst, IsText, most_added, with_sum}, Summed.{asked_of, schema_of, summed_of, tested_in}, Tabulations.MakesJson, Fleet.{AreRunsOf, AreRunsOfEach, Fleet, Fleets, FleetsLoseNothing, FleetsPrintAlike, KeepsColumns, PrintEach, ShowEach, TableKind, all_rows, asked_schema, kind_of, kind_of_first, more, of_files, of_printed, one}}
 
 -- the one table of a list
 pub only-same : (first other : SpanTable) → first ∷ [] ≡ other ∷ [] → first ≡ other

@@ -5,3 +5,4 @@ pub mod InTurn
 pub mod Outcomes
 pub mod ReadBack
 pub mod ShownRuns
+pub mod StacksApart

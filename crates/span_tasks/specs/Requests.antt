@@ -1,18 +1,20 @@
 -- What a request means.
 use Rattle.std.specs.Prelude.{◌≡◌, ◌⊎◌, List, [], codes, string_bytes}
-use Rattle.span_request.specs.declared.tasks.{Items.TheVariants.{Printed}, Request.{Request, TheVariants.{Refuse, Run, Show}}, TableText.TheVariants.{Changes, Repetitions, Table}, Task.{Task, TheVariants.{Collect, Pages, Tabulate}}}
-use Rattle.span_tasks.specs.{AsksFor, Bytes, Items, Listed, Name, Named, SourceBytes, SourceFolders, TableText, AreFilesOf, AreNamed, StopsListing, SaysOfNames, Outcome.{Ends}, Pages.{PrintsPage, StopsPage}, Tabulations.{StopsTabulating, Tabulates}, Together.{Collects, StopsCollecting}, declared.outcome.Outcome.Outcome}
+use Rattle.span_request.specs.declared.tasks.{Items.TheVariants.{Printed}, Request.{Request, TheVariants.{Refuse, Run, Show}}, TableText.TheVariants.{Changes, Repetitions, Table}, Task.{Task, TheVariants.{Collect, Pages, Stacks, Tabulate}}}
+use Rattle.span_tasks.specs.{AsksFor, Bytes, Items, Listed, Name, Named, SourceBytes, SourceFolders, TableText, AreFilesOf, AreNamed, StopsListing, SaysOfNames, Outcome.{Ends}, Pages.{PrintsPage, StopsPage}, Stacks.{PrintsStacks, StopsStacks}, Tabulations.{StopsTabulating, Tabulates}, Together.{Collects, StopsCollecting}, declared.outcome.Outcome.Outcome}
 
 -- the text that a task prints of files, and of those of a base, the fault lines that are said behind it, and the warnings behind these
 abbrev pub Prints : SourceBytes → Task → Listed → Listed → Bytes → Bytes → Bytes → Type 0
 Prints source (Collect settings view) base files text lines warnings = Collects source files.names.items settings view text lines warnings
 Prints source (Pages settings jobs view) base files text lines warnings = PrintsPage source files settings view text lines warnings
+Prints source (Stacks settings jobs labels) base files text lines warnings = PrintsStacks source files settings labels.items text lines warnings
 Prints source (Tabulate task) base files text lines warnings = Tabulates source task base files text lines warnings
 
 -- what is said where it prints nothing
 abbrev pub Stops : SourceBytes → Task → Listed → Listed → Bytes → Type 0
 Stops source (Collect settings view) base files lines = StopsCollecting source files.names.items settings view lines
 Stops source (Pages settings jobs view) base files lines = StopsPage source files settings view lines
+Stops source (Stacks settings jobs labels) base files lines = StopsStacks source files settings labels.items lines
 Stops source (Tabulate task) base files lines = StopsTabulating source task base files lines
 
 -- the names of the base of a text

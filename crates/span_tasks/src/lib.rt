@@ -13,6 +13,7 @@ mod requests;
 mod session;
 mod side;
 mod sides;
+mod stacks;
 mod summed;
 mod tabulation;
 mod texts;

@@ -94,6 +94,18 @@ impl<'a, R: Threads + Wait + RandomSource + Sync, S: Source + Sync> Place<'a, R,
                 view,
                 files,
             ),
+            Task::Stacks {
+                settings,
+                jobs,
+                labels,
+            } => self.print_stacks(
+                Apart {
+                    settings: *settings,
+                    jobs: *jobs,
+                },
+                labels,
+                files,
+            ),
             Task::Tabulate(task) => self.print_tables(task, base, files),
         }
     }

@@ -213,7 +213,7 @@ impl<'a, R: Threads + Wait + RandomSource + Sync, S: Source + Sync> Place<'a, R,
     }
 
     /// What files come to each of which is a run of its own.
-    pub(crate) fn gather<T: Gathering>(
+    pub(crate) fn gather<T: Gathering<By = Schema>>(
         &self,
         apart: &Apart,
         options: &TableOptions,

@@ -292,8 +292,8 @@ fn refused(alloc: Global, error: RunError) -> Halt
     }
 }
 
-// Folded stacks were not made.
-fn halt_of_stacks(alloc: Global, fault: StacksFault) -> Halt
+/// Folded stacks were not made.
+pub(crate) fn halt_of_stacks(alloc: Global, fault: StacksFault) -> Halt
     ensures { OfStop (λ lines. (fault ≡ TooLarge)
         × (lines ≡ run_line (number_of StacksTooLarge))) result }
 {
