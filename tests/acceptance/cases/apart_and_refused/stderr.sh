@@ -1,2 +1,2 @@
-# The text of a wrong command line isn't fixed.
-grep -q . && echo 'a text'
+# The rest of the text of a wrong command line is not fixed.
+sed -n 's/^error: //p'
