@@ -10,6 +10,9 @@ TEMPLATES = ["f<a>", "f<b<a>>", "f<b<a>> ", "f<b", "f<a->b>", "operator<", "oper
 # Values of arguments, of which some have the same text, and others are no text at all.
 VALUES = [1, "1", -7, "x", "", None, "null", True, False, "true", 1.5, [], "...", "-", *TEMPLATES[:4]]
 
+# Names of processes, threads and spans that are written alike in folded stacks, and others.
+ALIKE = ["", "-", "a;b", "a:b", "a b", "a\nb", "a", "1"]
+
 # Names within folders, in two parts.
 STEMS = ["a", "a-", "B", "é", "z.json", "~", " ", "10", "9", "ｚ", "𝄞", "a", "b", ".", ".k"]
 ENDINGS = [".json", ".json", ".json", ".json", "", ".jsonl", ".JSON", ".json.gz"]
@@ -51,10 +54,23 @@ def event(chance, in_fractions, process):
     return made | ({"args": arguments(chance)} if chance.randrange(4) else {})
 
 
+def named_event(chance, in_fractions):
+    """An event of one of a few threads of a few processes, or a name of one of these, which may be that of another."""
+    made = event(chance, in_fractions, 0) | {"pid": chance.randrange(3), "tid": chance.randrange(2)}
+    if made["ph"] == "M":
+        return made | {"name": chance.choice(["process_name", "thread_name"]), "args": {"name": name_of(chance, ALIKE)}}
+    return made | ({} if chance.randrange(3) else {"name": chance.choice(ALIKE)})
+
+
+def text_of(chance, events):
+    """A trace of these events, or, now and then, most of one."""
+    text = json.dumps(events, ensure_ascii=False)
+    return text if chance.randrange(8) else text[:-2]
+
+
 def trace(chance, in_fractions, process=None):
     """A trace of this process alone, if there is one."""
-    text = json.dumps([event(chance, in_fractions, process) for _ in range(chance.randrange(40))], ensure_ascii=False)
-    return text if chance.randrange(8) else text[:-2]
+    return text_of(chance, [event(chance, in_fractions, process) for _ in range(chance.randrange(40))])
 
 
 def put_text(path, text):
@@ -67,6 +83,14 @@ def put_traces(folder, chance, count, in_fractions=False):
     names = [f"{number}.json" for number in range(count)]
     for name in names:
         put_text(os.path.join(folder, name), trace(chance, in_fractions))
+    return names
+
+
+def put_named_traces(folder, chance, count, in_fractions=False):
+    """Makes so many files of a few processes and threads each, some of which have names, and gives the files' names."""
+    names = [f"named {number}.json" for number in range(count)]
+    for name in names:
+        put_text(os.path.join(folder, name), text_of(chance, [named_event(chance, in_fractions) for _ in range(chance.randrange(30))]))
     return names
 
 
