@@ -1,6 +1,7 @@
 #!/usr/bin/env python3
 """Sums traces by tracebook on the workers of a Dask cluster: prints what `tracebook --apart` prints for the same files and options, byte
-for byte, with the same lines on standard error and the same status. README.md beside this says how the work is divided, and what is kept.
+for byte, with the same lines on standard error and the same status; but folded stacks are those of chunks of the files, one behind the
+other. README.md beside this says how the work is divided, and what is kept.
 """
 import signal
 
@@ -34,7 +35,7 @@ PROGRAM = "tracebook"
 # The options of the program that have a value, and this command's own, with what their values are called.
 VALUED = {"--limit", "--top", "--by", "--numbers", "--of", "--base", "--jobs", "--group-by", "--where", "--only", "--skip", "--files-from"}
 OWN = {"--scheduler": "<ADDRESS>", "--workers": "<N>", "--parts": "<FOLDER>"}
-LIST, WHERE = "--files-from", "--where"
+LIST, WHERE, FOLDED = "--files-from", "--where", "--folded"
 # Those that tables follow from, and those that only the text follows from.
 OF_TABLES = ("--of", WHERE, "--merge-templates", "--limit", "--nanoseconds", "--seal", "--strict")
 OF_TEXT = ("--json", "--top", "--by", "--numbers", "--only", "--skip")
@@ -50,6 +51,7 @@ ARGUMENTS = ("args.", "parent.args.")
 RANKED_BY = "pid,tid,thread,name"
 COMPARED_BY = "process,thread,name"
 ASYNC_BY = "cat,name"
+FOLDED_BY = "name"
 # The numbers without --numbers, of texts for people and of tables, as the program has them.
 OF_SPANS = ["self", "total", "count"], ["count", "total", "self"]
 OF_ASYNC = ["total", "closed", "open", "points"], ["closed", "total", "open", "points"]
@@ -60,6 +62,8 @@ CHUNKS_EACH = 8
 OPENING = 10_000
 # So many tables are added at a time.
 WIDTH = 16
+# So many bytes of stacks are held at a time where they are printed.
+BLOCK = 1 << 20
 # The room for addresses that Dask takes at least, and with each worker of this machine.
 ROOM, ROOM_EACH = 320 << 20, 8 << 20
 # The seconds that a scheduler has to answer, and that a run goes on without a worker.
@@ -95,6 +99,8 @@ Options:
           Print help
 
 All other options are those of tracebook --apart, but for --jobs and --page.
+With --folded the stacks of several parts of the files follow one another; they
+are not added, as viewers of flame graphs do that.
 """
 
 
@@ -116,11 +122,13 @@ class Trace:
 
 @dataclass(frozen=True)
 class Work:
-    """What every task is given: the folder in which names begin, one for what isn't kept, the flags that all tables follow from, what the
-    head of a file's table says of them, the program that all are to run, and the folder of parts, if they are kept."""
+    """What every task is given: the folder in which names begin, one for what isn't kept, the option that asks for the text of a chunk, the
+    flags that all of these follow from, what the head of a file's table says of them, the program that all are to run, and the folder of
+    parts, if they are kept."""
 
     place: str
     room: str
+    text: str
     flags: list
     head: dict
     program: str
@@ -147,7 +155,7 @@ class Said:
 
 @dataclass(frozen=True)
 class Sum:
-    """What became of files: the status, what is said of them, and where their table is, unless the status is STOPPED."""
+    """What became of files: the status, what is said of them, and where their table is, or their stacks, unless the status is STOPPED."""
 
     status: int
     said: Said
@@ -178,7 +186,7 @@ def run_program(work, words, data):
     """Runs the program with these words and on these bytes, and keeps its text. Only if it ended well its table is there."""
     table = os.path.join(work.room, uuid.uuid4().hex)
     with open(table, "xb") as text:
-        ended = subprocess.run([PROGRAM, "--json", *words], cwd=work.place, input=data, stdout=text, stderr=subprocess.PIPE)
+        ended = subprocess.run([PROGRAM, work.text, *words], cwd=work.place, input=data, stdout=text, stderr=subprocess.PIPE)
     if ended.returncode in (0, FAULTY):
         return Sum(ended.returncode, said_of(ended_lines(ended)), table)
     os.remove(table)
@@ -547,10 +555,10 @@ def wait_for(client, futures, chunks):
 
 
 def submit(client, work, chunks):
-    """The futures of the chunks' sums, and of those that are left for the last addition."""
+    """The futures of the chunks' sums, and of those that are left for the last addition. Stacks are not added."""
     sums = [client.submit(sum_chunk, work, chunk, pure=False) for chunk in chunks]
     level = sums
-    while len(level) > WIDTH:
+    while len(level) > WIDTH and work.text != FOLDED:
         groups = [level[place : place + WIDTH] for place in range(0, len(level), WIDTH)]
         level = [client.submit(add, work, group, pure=False, priority=1) for group in groups]
     return sums, level
@@ -574,7 +582,7 @@ def progress(client, futures):
 
 
 def sum_files(client, work, sides):
-    """The sums of the files of each side, of which there are sixteen at most."""
+    """The sums of the files of each side, of which there are sixteen at most, or the stacks of all chunks."""
     slots = sum(client.nthreads().values()) or 1
     most = min(MOST_BYTES, sum(trace.cost for side in sides for trace in side) // (CHUNKS_EACH * slots))
     chunked = [list(chunks_of(side, most)) for side in sides]
@@ -621,11 +629,22 @@ def tables_of(line, side, sums):
     return tables
 
 
+def print_in_turn(paths):
+    """Prints what stands in these files, one behind the other."""
+    for path in paths:
+        with open(path, "rb") as text:
+            while block := text.read(BLOCK):
+                put(block)
+
+
 def print_text(line, sides, sums):
     """Prints the text of the sums of both sides. Gives the status, and what is left to say."""
     status, said = joined(sum(sums, []))
     if status == STOPPED:
         return status, said.lines
+    if line.has(FOLDED):
+        print_in_turn([each.table for each in sums[-1]])
+        return status, said.text()
     base, others = (tables_of(line, *each) for each in zip(sides, sums))
     words = ["--add", *line.flags(OF_TEXT), *(f"--base={table}" for table in base), "--", *others]
     ended = subprocess.run([PROGRAM, *words], stdin=subprocess.DEVNULL, stderr=subprocess.PIPE)
@@ -695,6 +714,8 @@ def broken_rule(line):
     for name in "--jobs", "--page":
         if line.has(name):
             return f"the argument '{name}' cannot be used with {NAME}"
+    if line.has("--parts") and line.has(FOLDED):
+        return f"the argument '--parts {OWN['--parts']}' cannot be used with '{FOLDED}'"
     return None
 
 
@@ -730,9 +751,11 @@ def shown_by_program(line):
 
 
 def columns_of(line):
-    """The columns of the table that is asked for, as the program has them without --group-by."""
+    """The columns of the table that is asked for, or of labels, as the program has them without --group-by."""
     if line.has("--group-by"):
         return line.value("--group-by")
+    if line.has(FOLDED):
+        return FOLDED_BY
     if is_async(line):
         return ASYNC_BY
     return COMPARED_BY if line.has("--base") or line.has("--json") else RANKED_BY
@@ -898,19 +921,25 @@ def run(line):
     parts, rest = folder_of_parts(line), os.getcwd() if line.has("--scheduler") else tempfile.gettempdir()
     with room_in([rest] if parts is None else [parts, rest]) as room, client_of(line, room) as client:
         of_files = [condition for condition in line.values(WHERE) if OF_FILE.fullmatch(condition)]
-        work = Work(os.getcwd(), room, flags_of(line, of_files), head_of(line), program, parts)
+        text = FOLDED if line.has(FOLDED) else "--json"
+        work = Work(os.getcwd(), room, text, flags_of(line, of_files), head_of(line), program, parts)
         sizes, given = sizes_of_parts(work), [keep_given(work)] if any(STANDARD_INPUT in side.names for side in sides) else []
         traces = [list(traces_of(work, side, of_files, sizes, given)) for side in sides]
         return print_text(line, sides, sum_files(client, work, traces))
 
 
-def show(text):
-    """Prints a text that is no sum."""
+def put(data):
+    """Writes to standard output."""
     try:
         with open(1, "wb", closefd=False) as output:
-            output.write(text.encode())
+            output.write(data)
     except OSError:
         raise NoText(f"{PROGRAM}: 51 Output\n") from None
+
+
+def show(text):
+    """Prints a text that is no sum."""
+    put(text.encode())
     return 0, ""
 
 

@@ -78,6 +78,15 @@ SAME = {
     "an empty list of columns": ["--json", "--group-by=", "3.json"],
     "no table": ["3.json"],
     "folded stacks": ["--folded", "3.json"],
+    "folded stacks by argument": ["--folded", "--merge-templates", "--group-by", "name,args.detail", "3.json"],
+    "folded stacks of a file that is no trace": ["--folded", "cut.json"],
+    "folded stacks behind a file that is missing": ["--folded", "none.json", "3.json"],
+    "folded stacks with a limit that is reached": ["--folded", "--limit=2", "3.json"],
+    "folded stacks by file": ["--folded", "--group-by", "file", "3.json"],
+    "folded stacks under a condition": ["--folded", "--where", "name=a", "3.json"],
+    "folded stacks of a base": ["--folded", "--base", "3.json", "7.json"],
+    "folded stacks as JSON Lines": ["--folded", "--json", "3.json"],
+    "a value of folded stacks": ["--folded=3", "3.json"],
     "refused elements": ["--refused", "3.json"],
     "tables": ["--add", "--json", "3.json"],
     "repeated runs": ["--repeats", "--base", "3.json", "7.json"],
@@ -125,6 +134,7 @@ OF_TREES = {
 GIVEN = '[{"ph":"X","name":"given","ts":1,"dur":2},5]'
 OF_INPUT = {
     "standard input": (["--json", "-"], GIVEN),
+    "stacks of standard input": (["--folded", "-"], GIVEN),
     "standard input by file": (["--json", "--group-by", "file", "3.json", "-", "cut.json"], GIVEN),
     "standard input without a file": (["--top", "3"], GIVEN),
     "standard input beside a base": (["--group-by", "file,name", "--base", "3.json"], GIVEN),
@@ -152,6 +162,7 @@ OWN = {
     "no workers": (["--workers=0"], "invalid value '0' for '--workers <N>'"),
     "an empty number of workers": (["--workers="], "invalid value '' for '--workers <N>'"),
     "no folder": (["--parts", "--json"], "a value is required for '--parts <FOLDER>'"),
+    "--parts beside --folded": (["--parts", "parts", "--folded"], "'--parts <FOLDER>' cannot be used with '--folded'"),
     "--jobs": (["--jobs", "2"], "'--jobs' cannot be used with tracebook_dask"),
     "--page": (["--page"], "'--page' cannot be used with tracebook_dask"),
 }
