@@ -1,5 +1,5 @@
-# In each file spans of which each begins a microsecond after the one before, and that end together: 1 + 2 + .. + 8,192 labels, and
-# in both together more than 67,108,864.
+# In each of two files spans of which each begins a microsecond after the one before, and that end together: 1 + 2 + .. + 8,192 labels,
+# and in both together more than 67,108,864. One more file is cut off.
 for name in one two; do
     awk -v name="$name" 'BEGIN {
         printf "[{\"ph\":\"M\",\"name\":\"thread_name\",\"pid\":1,\"tid\":1,\"args\":{\"name\":\"%s\"}}", name
@@ -8,3 +8,4 @@ for name in one two; do
         print "]"
     }' > "$1/$name.json"
 done
+printf '[{"ph":"B","na' > "$1/cut.json"
