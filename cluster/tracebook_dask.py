@@ -99,8 +99,8 @@ Options:
           Print help
 
 All other options are those of tracebook --apart, but for --jobs and --page.
-With --folded the stacks of several parts of the files follow one another; they
-are not added, as viewers of flame graphs do that.
+With --folded the stacks of chunks of the files stand one behind the other, as
+viewers of flame graphs add them up.
 """
 
 
