@@ -64,8 +64,8 @@ before --where, --only and --skip; with --top, --json, --base,
 
 pub(crate) const APART_HELP: &str =
     r#"Take each FILE as a run of its own, whatever processes they share, and
-sum their tables; any number of files; with --top, --json, --base and
---page"#;
+add their tables, or their folded stacks; any number of files; with
+--top, --json, --base, --folded and --page"#;
 
 pub(crate) const REPEATS_HELP: &str =
     r#"Take each FILE, and each --base FILE, as one repetition, a run of its
