@@ -1,16 +1,12 @@
 -- The names of spans: what they are once one more span is added, and how many they are at most.
 use Rattle.std.specs.List.{fold, list_any}
-use Rattle.std.proofs.{Common.{◌≡◌, ℕ, ◌+◌, ◌≤◌, Bool, true, false, cond, List, [], ◌∷◌, ◌++◌, length, nat_eq, arith}, lemmas.List.{length_push, Sums.fold_push}}
+use Rattle.std.proofs.{Common.{ℕ, ◌+◌, ◌≤◌, Bool, true, false, cond, List, [], ◌∷◌, ◌++◌, length, nat_eq, arith}, lemmas.List.{length_push}}
 use Rattle.indexmap.specs.IndexSet.{insert_key}
 use Rattle.span_closed_spans.specs.{Span, names_of}
 
 -- the names, once one more span comes after these
 abbrev with_span : List ℕ → Span ℕ → List ℕ
 with_span names s = insert_key nat_eq names s.name
-
--- one more span adds its name at the end, unless a span before it has that name
-pub names_of-append : (spans : List (Span ℕ)) (s : Span ℕ) → names_of nat_eq (spans ++ s ∷ []) ≡ insert_key nat_eq (names_of nat_eq spans) s.name
-names_of-append spans s = fold_push with_span [] spans s
 
 length-cond : (b : Bool) (names : List ℕ) (name : ℕ) → length (cond b names (names ++ name ∷ [])) ≤ length names + 1
 length-cond true names name = omega arith

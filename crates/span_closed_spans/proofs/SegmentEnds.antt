@@ -1,7 +1,7 @@
 -- That a segment starts and ends where spans do, and how many segments there can be.
 use Rattle.std.specs.{List.{list_any, count_by, AllByRecursion, IsDistinct}, Ordering.int_eq}
-use Rattle.std.proofs.{Common.{◌≡◌, ◌≢◌, ◌≤◌, ℕ, ◌*◌, nat_eq, Bool, true, false, ◌&&◌, ◌||◌, not, cond, ℤ, pos, ◌-ℤ◌, ◌-◌, ◌≤ℤ◌, ◌<ℤ◌, List, [], ◌∷◌, ◌++◌, map, length, slice_get, IfSome, refl, sym, ap, ap₂, subst, ◌∙◌, arith, length-append, All, true≢false, inl, inr}, lemmas.{Bool.{eq-eqb, ne_eqb, or_cases, or_parts}, Cmp.int_eq_equiv, Int.{ints, by_lt_z}, List.{length-map, Elements.{All-nil, All-cons, All-head, All-tail}, Folds.list_any-append, Sums.sum_by-cons}, Map.{Keys.IsDistinct-cons, Made.length-le_from_is_member}, Option.slice_get_cases}}
-use Rattle.span_self_time.proofs.Segments.{AreFrom, AreFrom-until, is_in_segment-before, is_in_segment-head, is_in_segment-tail, is_in_segment-until}
+use Rattle.std.proofs.{Common.{◌≡◌, ◌≢◌, ◌≤◌, ℕ, ◌*◌, nat_eq, Bool, true, false, ◌&&◌, ◌||◌, not, cond, ℤ, pos, ◌-ℤ◌, ◌-◌, ◌≤ℤ◌, ◌<ℤ◌, List, [], ◌∷◌, ◌++◌, map, length, slice_get, IfSome, refl, sym, ap, ap₂, subst, ◌∙◌, arith, length-append, All, true≢false, inl, inr}, lemmas.{Grind.common_steps, Bool.{eq-eqb, or_cases, or_parts}, Cmp.int_eq_equiv, Int.{ints}, List.{length-map, Elements.{All-nil, All-cons, All-head, All-tail}, Folds.list_any-append, Sums.sum_by-cons}, Map.{Keys.IsDistinct-cons, Made.length-le_from_is_member}, Option.slice_get_cases}}
+use Rattle.span_self_time.proofs.Segments.{AreFrom, AreFrom-until, is_in_segment-before, is_in_segment-head, is_in_segment-until}
 use Rattle.span_closed_spans.specs.{Segment, Span, covers, outranks, is_outranked, is_in_segment, is_on_top, lasts, has_end, is_end, HasEnds, IsRightBefore, AreInOrder, AreSegments}
 
 abbrev HasNoEnd : ℤ → Span ℕ → Type 0
@@ -72,16 +72,7 @@ IsWhole-head x xs order = record {
 }
 
 IsWhole-tail : (x g : Segment) (xs : List Segment) → AreInOrder (x ∷ xs) → IsBehind x g → IsWhole xs g → IsWhole (x ∷ xs) g
-IsWhole-tail x g xs order behind whole = record {
-  first = is_in_segment-tail x xs g.at g.start behind.0 ∙ whole.first;
-  before = by_lt_z x.until g.start
-      (λ apart. is_in_segment-tail x xs g.at (g.start -ℤ pos 1) (omega (arith, ints)) ∙ whole.before)
-      (λ touch.
-      is_in_segment-head x xs order g.at (g.start -ℤ pos 1) (omega (arith, ints, order.0, behind.0)) (omega (arith, ints, behind.0))
-      ∙ ne_eqb x.at g.at (behind.1 (omega (arith, ints, behind.0))));
-  last = is_in_segment-tail x xs g.at (g.until -ℤ pos 1) (omega (arith, ints, behind.0, behind.2)) ∙ whole.last;
-  behind = is_in_segment-tail x xs g.at g.until (omega (arith, ints, behind.0, behind.2)) ∙ whole.behind;
-}
+IsWhole-tail x g xs order behind whole = grind (arith, ints, common_steps)
 
 AreWhole : (segments : List Segment) → AreInOrder segments → All (IsWhole segments) segments
 AreWhole [] order = All-nil (IsWhole [])

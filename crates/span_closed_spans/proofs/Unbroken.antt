@@ -1,5 +1,5 @@
 -- In a stretch of time in which no span starts or ends, what the spans cover stays.
-use Rattle.std.proofs.{Common.{◌<◌, ◌≡◌, ℕ, ◌+◌, ℤ, pos, ◌≤ℤ◌, ◌<ℤ◌, Bool, not, cond, ◌&&◌, ◌||◌, ◌∙◌, sym, ◌^◌, arith, List, [], ◌∷◌, map, refl, ap, ap₂, All}, lemmas.{Int.{ints, clamps}, List.Elements.{All-head, All-tail}}}
+use Rattle.std.proofs.{Common.{◌<◌, ◌≡◌, ℕ, ◌+◌, ℤ, pos, ◌≤ℤ◌, ◌<ℤ◌, Bool, not, cond, ◌&&◌, ◌||◌, ◌∙◌, sym, ◌^◌, arith, List, [], ◌∷◌, map, refl, ap, ap₂, All}, lemmas.{Grind.common_steps, Int.{ints, clamps}, List.Elements.{All-head, All-tail}}}
 use Rattle.span_self_time.proofs.Counts.{count_from-unbroken, count_from-le, add-distance}
 use Rattle.span_closed_spans.specs.{ClosedSpan, least_time, distance, Span, count_from, outranks, is_outranked, is_covered, busy_time, earliest, latest, span_of, greatest_until, IsInTime, Walk.{IsUnbroken, counts}, declared.walk.Counted.{Counted, TheVariants.{OwnOf, Covered}}}
 
@@ -29,9 +29,7 @@ counted_from-is spans c u end = refl
 
 pub counted_from-end : (spans : List (Span ℕ)) (c : Counted) (u end : ℤ) → u ≡ end → counted_from spans c u end ≡ 0
 unfolding counted_from
-counted_from-end spans c u end ends =
-    let reached = add-distance u end (omega (arith, ints, ends)) in
-    let none : distance u end ≡ 0 = omega (arith, ints, ends, reached) in rw none refl
+counted_from-end spans c u end ends = grind (arith, ints, common_steps)
 
 pub counted_from-step : (spans : List ClosedSpan) (c : Counted) (u v end : ℤ) (b : Bool) → u ≤ℤ v → v ≤ℤ end → All (λ span. IsUnbroken (span_of span) u v) spans → b ≡ counts (map span_of spans) c u → counted_from (map span_of spans) c u end ≡ cond b (distance u v) 0 + counted_from (map span_of spans) c v end
 unfolding counted_from

@@ -1,5 +1,5 @@
 -- That one more span leaves the closed spans what they must be, and what holds of each of them.
-use Rattle.std.proofs.{Common.{◌≡◌, ℕ, zero, suc, ◌+◌, ◌<◌, ◌≢◌, ◌^◌, ◌≤ℤ◌, List, [], ◌∷◌, ◌++◌, length, take, get_or, sym, ap, ◌∙◌, subst, arith, All, append_assoc, append-nil, length-append}, Math.Seq.{get_or-append_seam, take-append_seam}, lemmas.List.Elements.{All-push, All-head, All-tail, All-nil, All-cons}}
+use Rattle.std.proofs.{Common.{◌≡◌, ℕ, zero, suc, ◌+◌, ◌<◌, ◌≢◌, ◌^◌, ◌≤ℤ◌, List, [], ◌∷◌, ◌++◌, length, take, get_or, sym, ap, ◌∙◌, subst, arith, All, append_assoc, append-nil, length-append}, Math.Seq.{get_or-append_seam, take-append_seam}, lemmas.{Int.ints, Grind.common_steps, List.Elements.{All-push, All-head, All-tail, All-nil, All-cons}}}
 use Rattle.span_self_time.specs.{Closed.{CanJoin, IsInTime, AreClosed}, Laws.{IsApart, AreSpans}, Spans.Span}
 
 IsApart-append : (at : ℕ) (spans : List (Span ℕ)) (s : Span ℕ) → IsApart at spans → s.at ≢ at → IsApart at (spans ++ s ∷ [])
@@ -15,11 +15,7 @@ AreSpans-append (x ∷ spans) s are apart lasts =
     (are.0, IsApart-append x.at spans s are.1 (λ same. here (sym same)), AreSpans-append spans s are.2 later lasts)
 
 pub AreClosed-append : (spans : List (Span ℕ)) (s : Span ℕ) → AreClosed spans → length spans + 1 < 2 ^ 32 → s.start ≤ℤ s.until → IsInTime s → All (λ x. x.at ≢ s.at) spans → AreClosed (spans ++ s ∷ [])
-AreClosed-append spans s closed few lasts in_time apart = record {
-  are = AreSpans-append spans s closed.are apart lasts;
-  in_time = All-push IsInTime spans s closed.in_time in_time;
-  few = omega (arith, length-append spans (s ∷ []));
-}
+AreClosed-append spans s closed few lasts in_time apart = grind (arith, ints, common_steps, AreSpans-append)
 
 pub All-apart : (at : ℕ) (spans : List (Span ℕ)) → IsApart at spans → All (λ s. s.at ≢ at) spans
 All-apart at [] apart = All-nil (λ (s : Span ℕ). s.at ≢ at)

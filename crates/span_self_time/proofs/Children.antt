@@ -1,6 +1,6 @@
 -- That a span's self time is what its direct children leave of it, where spans nest or are disjoint.
 use Rattle.std.specs.{Bool.Decides, List.{sum_by, list_any}}
-use Rattle.std.proofs.{Common.{◌≡◌, ℕ, zero, suc, ◌+◌, Bool, true, false, not, ◌&&◌, ◌||◌, cond, inl, inr, ℤ, pos, ◌+ℤ◌, ◌≤ℤ◌, ◌<ℤ◌, int_le, List, [], ◌∷◌, filter, refl, sym, ap, ap₂, ◌∙◌, true≢false, arith, All, get_or}, lemmas.{Bool.{and_parts, and_right, Decides.Decides-and}, Int.ints, List.{Elements.{All-head, All-tail}, Sums.sum_by-cons}}}
+use Rattle.std.proofs.{Common.{◌≡◌, ℕ, zero, suc, ◌+◌, Bool, true, false, not, ◌&&◌, ◌||◌, cond, ℤ, pos, ◌+ℤ◌, ◌≤ℤ◌, ◌<ℤ◌, int_le, List, [], ◌∷◌, filter, refl, sym, ap, ap₂, ◌∙◌, true≢false, arith, All, get_or}, lemmas.{Grind.common_steps, Bool.{and_parts, and_right, Decides.Decides-and}, Int.ints, List.{Elements.{All-head, All-tail}, Sums.sum_by-cons}}}
 use Rattle.span_self_time.specs.{Laws.{AreSpans, NestOrAreDisjoint, AreNested, is_child, is_direct_child, direct_children}, Spans.{Span, covers, outranks, is_outranked, count_from, length_of, self_time}}
 use Rattle.span_self_time.proofs.{Apart.All-lasts, Counts.{count_from-same, count_from-none, count_from-covered, count_from-all, sum_by-count_from, sum_by-nothing, add-distance}, Ranks.{Decides-int_lt, IsAbove, Decides-outranks, outranks-itself, outranks-trans, IsRanked-spans}, Tops.{one_if, is_below, sum_by-tops, IsRanked, IsConnected}}
 
@@ -12,10 +12,7 @@ same_tests false false to from = refl
 -- what holds of each element makes two sums one
 sum_by-same_at : {A : Type 0} (f g : A → ℕ) (xs : List A) → All (λ x. f x ≡ g x) xs → sum_by f xs ≡ sum_by g xs
 sum_by-same_at f g [] same = refl
-sum_by-same_at f g (x ∷ xs) same =
-    let here = All-head (λ y. f y ≡ g y) x xs same in
-    let rest = sum_by-same_at f g xs (All-tail (λ y. f y ≡ g y) x xs same) in
-    omega (arith, sum_by-cons f x xs, sum_by-cons g x xs, here, rest)
+sum_by-same_at f g (x ∷ xs) same = grind (arith, ints, common_steps, All-head, All-tail, sum_by-cons, sum_by-same_at f g xs (All-tail (λ y. f y ≡ g y) x xs same))
 
 list_any-same_at : {A : Type 0} (p q : A → Bool) (xs : List A) → All (λ x. p x ≡ q x) xs → list_any p xs ≡ list_any q xs
 list_any-same_at p q [] same = refl
@@ -48,26 +45,12 @@ module _ {N : Type 0} where
   Decides-is_child : (c p : Span N) → Decides (is_child c p) (((p.start ≤ℤ c.start) × (c.until ≤ℤ p.until)) × IsAbove c p)
   Decides-is_child c p = Decides-and _ _ (Decides-and _ _ (Decides-int_le p.start c.start) (Decides-int_le c.until p.until)) (Decides-outranks c p)
 
-  -- of two spans that nest and share a tick, the one above lies within the other
-  IsWithin-above : (c p : Span N) (u : ℤ) → NestOrAreDisjoint p c → (p.start ≤ℤ u) × (u <ℤ p.until) → (c.start ≤ℤ u) × (u <ℤ c.until) → IsAbove c p → (p.start ≤ℤ c.start) × (c.until ≤ℤ p.until)
-  IsWithin-above c p u (inl (inl p_in_c)) here there (inl later) = absurd (omega (arith, ints, p_in_c.0))
-  IsWithin-above c p u (inl (inl p_in_c)) here there (inr (same, inl sooner)) = absurd (omega (arith, ints, p_in_c.1))
-  IsWithin-above c p u (inl (inl p_in_c)) here there (inr (same, inr both)) = (omega (arith, ints, same), omega (arith, ints, both.0))
-  IsWithin-above c p u (inl (inr c_in_p)) here there above = c_in_p
-  IsWithin-above c p u (inr (inl before)) here there above = absurd (omega (arith, ints, here.1, there.0))
-  IsWithin-above c p u (inr (inr after)) here there above = absurd (omega (arith, ints, here.0, there.1))
-
   is_child-outranks : (c p : Span N) (u : ℤ) → NestOrAreDisjoint p c → covers p u ≡ true → covers c u ≡ true → is_child c p ≡ outranks c p
-  is_child-outranks c p u nest here there = same_tests _ _
-      (λ h. (Decides-outranks c p).1 ((Decides-is_child c p).0 h).1)
-      (λ h. let above = (Decides-outranks c p).0 h in (Decides-is_child c p).1 (IsWithin-above c p u nest ((Decides-covers p u).0 here) ((Decides-covers c u).0 there) above, above))
+  is_child-outranks c p u nest here there = grind (arith, ints, common_steps)
 
   -- a parent covers what its child covers
   covers-parent : (c p : Span N) (u : ℤ) → covers c u ≡ true → is_child c p ≡ true → covers p u ≡ true
-  covers-parent c p u there child =
-      let within = ((Decides-is_child c p).0 child).0 in
-      let at = (Decides-covers c u).0 there in
-      (Decides-covers p u).1 (omega (arith, ints, within.0, at.0), omega (arith, ints, within.1, at.1))
+  covers-parent c p u there child = grind (arith, ints, common_steps)
 
   -- another child of s that b is a child of, and one that b ranks above
   between : (s b x : Span N) (u : ℤ) (cover : Bool) → covers x u ≡ cover → covers s u ≡ true → covers b u ≡ true → NestOrAreDisjoint s x → NestOrAreDisjoint x b → (is_child x s && is_child b x) ≡ ((cover && outranks x s) && outranks b x)

@@ -1,6 +1,6 @@
 -- How many ticks of a stretch of time pass a test.
 use Rattle.std.specs.List.{sum_by}
-use Rattle.std.proofs.{Common.{◌≡◌, cond, ◌≤◌, ◌<◌, ℕ, zero, suc, ◌+◌, Bool, true, false, ◌&&◌, ℤ, pos, negsuc, ◌+ℤ◌, ◌-ℤ◌, ◌≤ℤ◌, ◌<ℤ◌, int_lt, int_le, refl, sym, ap, ap₂, ◌∙◌, arith, zero-add, List, [], ◌∷◌}, lemmas.{Bool.{and_left, and_right, and_from}, Int.{ints, by_lt_z}, List.Sums.sum_by-cons}}
+use Rattle.std.proofs.{Common.{◌≡◌, cond, ◌≤◌, ◌<◌, ℕ, zero, suc, ◌+◌, Bool, true, false, ◌&&◌, ℤ, pos, negsuc, ◌+ℤ◌, ◌-ℤ◌, ◌≤ℤ◌, ◌<ℤ◌, int_lt, int_le, refl, sym, ap, ap₂, ◌∙◌, arith, zero-add, List, [], ◌∷◌}, lemmas.{Grind.common_steps, Bool.{and_left, and_right, and_from}, Int.{ints}, List.Sums.sum_by-cons}}
 use Rattle.span_self_time.specs.{distance, natural, Spans.{Span, count_from, covers, length_of}}
 use Rattle.span_self_time.proofs.Tops.{one_if}
 
@@ -13,11 +13,7 @@ pub add-distance : (a b : ℤ) → a ≤ℤ b → (a +ℤ pos (distance a b)) �
 add-distance a b h = let e = pos-natural (b -ℤ a) (omega (arith, ints)) in omega (arith, ints, e)
 
 pub distance-add : (a b c : ℤ) → a ≤ℤ b → b ≤ℤ c → distance a c ≡ distance a b + distance b c
-distance-add a b c first then =
-    let whole = add-distance a c (omega (arith, ints)) in
-    let here = add-distance a b first in
-    let later = add-distance b c then in
-    omega (arith, ints, whole, here, later)
+distance-add a b c first then = grind (arith, ints, common_steps)
 
 pub count_from-add : (p : ℤ → Bool) (t : ℤ) (m n : ℕ) → count_from t (m + n) p ≡ count_from t m p + count_from (t +ℤ pos m) n p
 count_from-add p t zero n =
@@ -32,16 +28,11 @@ count_from-add p t (suc m) n =
 
 pub count_from-same : (p q : ℤ → Bool) (t : ℤ) (n : ℕ) → ((u : ℤ) → t ≤ℤ u → u <ℤ (t +ℤ pos n) → p u ≡ q u) → count_from t n p ≡ count_from t n q
 count_from-same p q t zero same = refl
-count_from-same p q t (suc n) same =
-    ap₂ ◌+◌ (ap one_if (same t (omega (arith, ints)) (omega (arith, ints))))
-    (count_from-same p q (t +ℤ pos 1) n (λ u from before. same u (omega (arith, ints)) (omega (arith, ints))))
+count_from-same p q t (suc n) same = grind (arith, ints, common_steps, count_from-same p q (t +ℤ pos 1) n (λ u from before. same u (omega (arith, ints)) (omega (arith, ints))))
 
 pub count_from-none : (p : ℤ → Bool) (t : ℤ) (n : ℕ) → ((u : ℤ) → t ≤ℤ u → u <ℤ (t +ℤ pos n) → p u ≡ false) → count_from t n p ≡ 0
 count_from-none p t zero none = refl
-count_from-none p t (suc n) none =
-    let here = ap one_if (none t (omega (arith, ints)) (omega (arith, ints))) in
-    let rest = count_from-none p (t +ℤ pos 1) n (λ u from before. none u (omega (arith, ints)) (omega (arith, ints))) in
-    omega (arith, here, rest)
+count_from-none p t (suc n) none = grind (arith, ints, common_steps, count_from-none p (t +ℤ pos 1) n (λ u from before. none u (omega (arith, ints)) (omega (arith, ints))))
 
 pub sum_by-nothing : {A : Type 0} (xs : List A) → sum_by (λ x. 0) xs ≡ 0
 sum_by-nothing [] = refl
@@ -110,10 +101,7 @@ count_from-le p t (suc n) = let rest = count_from-le p (t +ℤ pos 1) n in by_te
 
 pub count_from-all : (p : ℤ → Bool) (t : ℤ) (n : ℕ) → ((u : ℤ) → t ≤ℤ u → u <ℤ (t +ℤ pos n) → p u ≡ true) → count_from t n p ≡ n
 count_from-all p t zero all = refl
-count_from-all p t (suc n) all =
-    let here = ap one_if (all t (omega (arith, ints)) (omega (arith, ints))) in
-    let rest = count_from-all p (t +ℤ pos 1) n (λ u from before. all u (omega (arith, ints)) (omega (arith, ints))) in
-    omega (arith, here, rest)
+count_from-all p t (suc n) all = grind (arith, ints, common_steps, count_from-all p (t +ℤ pos 1) n (λ u from before. all u (omega (arith, ints)) (omega (arith, ints))))
 
 -- through a stretch in which the test doesn't change, all pass or none
 pub count_from-unbroken : (p : ℤ → Bool) (b : Bool) (u v w : ℤ) → u ≤ℤ v → v ≤ℤ w → ((x : ℤ) → u ≤ℤ x → x <ℤ v → p x ≡ b) → count_from u (distance u w) p ≡ cond b (distance u v) 0 + count_from v (distance v w) p
@@ -125,15 +113,6 @@ count_from-unbroken p b u v w first then same =
     by_test true h = count_from-all p u (distance u v) (λ x from before. let here = add-distance u v first in h x from (omega (arith, ints, here)))
     by_test false h = count_from-none p u (distance u v) (λ x from before. let here = add-distance u v first in h x from (omega (arith, ints, here)))
 
--- no distance goes back
-pub natural-none : (z : ℤ) → z ≤ℤ pos 0 → natural z ≡ 0
-natural-none (pos n) h = omega (arith, ints)
-natural-none (negsuc n) h = refl
-
 -- the later time is nearer to the end
 pub distance-later : (t later until : ℤ) → t <ℤ later → t <ℤ until → distance later until < distance t until
-distance-later t later until h before =
-    let whole = add-distance t until (omega (arith, ints)) in
-    by_lt_z later until
-    (λ k. let rest = add-distance later until (omega (arith, ints)) in omega (arith, ints, whole, rest))
-    (λ k. let none = natural-none (until -ℤ later) (omega (arith, ints)) in omega (arith, ints, whole, none))
+distance-later t later until h before = grind (arith, ints, common_steps)

@@ -4,7 +4,6 @@ pub mod Counts
 pub mod Lengths
 pub mod Lone
 pub mod Mapped
-pub mod OwnTimes
 pub mod Owners
 pub mod Ranks
 pub mod Renumbering
@@ -14,4 +13,5 @@ pub mod SelfSums
 pub mod SelfTimes
 pub mod SpanTimes
 pub mod TimeMap
+pub mod Times
 pub mod Tops

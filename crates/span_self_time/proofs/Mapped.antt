@@ -1,6 +1,7 @@
 -- Spans in place of others: where they cover the same ticks, the busy time stays, and where they rank alike too, the self times.
+use Rattle.std.proofs.Common.{arith}
 use Rattle.std.specs.{Int.{int_min, int_max}, List.{list_any, sum_by}, Prelude.filter}
-use Rattle.std.proofs.{Common.{◌≡◌, ℕ, ◌+◌, List, [], ◌∷◌, map, Bool, true, false, cond, not, ◌&&◌, ◌||◌, ℤ, int_lt, int_le, refl, ap, ap₂, ◌∙◌}, lemmas.List.Folds.fold-map}
+use Rattle.std.proofs.{Common.{◌≡◌, ℕ, ◌+◌, List, [], ◌∷◌, map, Bool, not, ◌&&◌, ◌||◌, ℤ, int_lt, int_le, refl, ap, ap₂, ◌∙◌}, lemmas.{Int.ints, Grind.common_steps, List.Folds.fold-map}}
 use Rattle.span_self_time.specs.{distance, Spans.{Span, covers, outranks, is_outranked, is_covered, earliest, latest, length_of, count_from, self_time, busy_time}}
 use Rattle.span_self_time.proofs.Counts.{count_from-same}
 
@@ -15,9 +16,7 @@ list_any-same p q same (x ∷ xs) = ap₂ (λ a b. a || b) (same x) (list_any-sa
 -- a selection after a map is a map after a selection
 pub filter-map : {A B : Type 0} (p : B → Bool) (f : A → B) (xs : List A) → filter p (map f xs) ≡ map f (filter (λ x. p (f x)) xs)
 filter-map p f [] = refl
-filter-map p f (x ∷ xs) =
-    ap (λ l. cond (p (f x)) (f x ∷ l) l) (filter-map p f xs)
-    ∙ (elim (p (f x)) as (λ b. cond b (f x ∷ map f (filter (λ y. p (f y)) xs)) (map f (filter (λ y. p (f y)) xs)) ≡ map f (cond b (x ∷ filter (λ y. p (f y)) xs) (filter (λ y. p (f y)) xs))) [ true ↦ refl | false ↦ refl ])
+filter-map p f (x ∷ xs) = grind (arith, ints, common_steps, filter-map p f xs)
 
 -- a sum after a map
 pub sum_by-map : {A B : Type 0} (g : B → ℕ) (f : A → B) (xs : List A) → sum_by g (map f xs) ≡ sum_by (λ x. g (f x)) xs
@@ -44,9 +43,7 @@ module _ {N M : Type 0} (f : Span N → Span M) (starts : (s : Span N) → (f s)
       list_any-map (λ s. covers s u) f spans ∙ list_any-same (λ s. covers (f s) u) (λ s. covers s u) (λ s. covers-map s u) spans
 
   pub busy_time-map : (spans : List (Span N)) → busy_time (map f spans) ≡ busy_time spans
-  busy_time-map spans =
-      ap₂ (λ a b. count_from a (distance a b) (λ u. is_covered (map f spans) u)) (earliest-map spans) (latest-map spans)
-      ∙ count_from-same (λ u. is_covered (map f spans) u) (λ u. is_covered spans u) (earliest spans) (distance (earliest spans) (latest spans)) (λ u from before. is_covered-map spans u)
+  busy_time-map spans = grind (arith, ints, common_steps, earliest-map, latest-map, count_from-same, is_covered-map)
 
   -- and rank alike
   module _ (ranks : (a b : Span N) → outranks (f a) (f b) ≡ outranks a b) where

@@ -1,8 +1,8 @@
 -- To whom the spans leave a tick: to the one of those that cover it above which none of them ranks.
 use Rattle.std.specs.List.{fold, list_any}
-use Rattle.std.proofs.{Common.{◌≡◌, ◌≢◌, ℕ, Bool, true, false, not, ◌&&◌, cond, nat_eq, ℤ, ◌≤ℤ◌, ◌<ℤ◌, List, [], ◌∷◌, ◌++◌, Option, Some, None, ◌⊎◌, inl, inr, refl, sym, ap, ◌∙◌, true≢false, All, get_or}, lemmas.{Bool.{or_from, or_cases, and_from, and_parts, and_left, and_right, not_from_false, not-true, false_from_ne_true, cases_eq}, List.{Elements.{All-head, All-tail}, Folds.{list_any_none, list_any_at}, Sums.fold_push}, Option.same_Some}}
-use Rattle.span_self_time.specs.{Division.{Owners, bare, claims, taken, owners_of}, Segments.is_on_top, Spans.{Span, covers, outranks, is_outranked}}
-use Rattle.span_self_time.proofs.{Counts.{covers-before, covers-after, covers-between}, Ranks.{outranks-itself, outranks-trans, outranks-either}}
+use Rattle.std.proofs.{Common.{◌≡◌, ◌≢◌, ℕ, Bool, true, false, not, ◌&&◌, cond, nat_eq, ℤ, ◌≤ℤ◌, ◌<ℤ◌, List, [], ◌∷◌, ◌++◌, Option, Some, None, ◌⊎◌, inl, inr, refl, sym, ap, ◌∙◌, true≢false, All, get_or, arith}, lemmas.{Grind.common_steps, Bool.{or_from, or_cases, and_from, and_parts, and_left, and_right, not_from_false, not-true, false_from_ne_true, cases_eq}, Int.{ints}, List.{Elements.{All-head, All-tail}, Folds.{list_any_none, list_any_at}, Sums.fold_push}, Option.same_Some}}
+use Rattle.span_self_time.specs.{Division.{Owners, bare, claims, taken, taken_to, owners_of}, Segments.is_on_top, Spans.{Span, covers, outranks, is_outranked}}
+use Rattle.span_self_time.proofs.{Counts.{covers-before, covers-after, int_lt-above, int_lt-below}, Ranks.{outranks-trans, outranks-either}}
 
 -- the owner of u once the span has taken its own
 abbrev owner_after : ℤ → Option (Span ℕ) → Span ℕ → Option (Span ℕ)
@@ -28,12 +28,7 @@ claims-fold x u owner (s ∷ spans) h = claims-fold x u (owner_after u owner s) 
 
 -- what a span has been offered it takes no more
 claims-own : (s : Span ℕ) (u : ℤ) (owner : Option (Span ℕ)) → (covers s u && claims (bare s) (owner_after u owner s)) ≡ false
-claims-own s u owner = by_test (covers s u) (claims (bare s) owner) refl
-  where
-    by_test : (c b : Bool) → claims (bare s) owner ≡ b → (c && claims (bare s) (cond (c && b) (Some (bare s)) owner)) ≡ false
-    by_test false b h = refl
-    by_test true true h = outranks-itself (bare s)
-    by_test true false h = h
+claims-own s u owner = grind (arith, ints, common_steps)
 
 list_any-fold : (u : ℤ) (owner : Option (Span ℕ)) (spans : List (Span ℕ)) → list_any (λ s. covers s u && claims (bare s) (fold (owner_after u) owner spans)) spans ≡ false
 list_any-fold u owner [] = refl
@@ -140,18 +135,33 @@ taken-after s owners u h = ap (λ b. cond (b && claims s (owners u)) (Some s) (o
 
 -- within the span the claim decides
 pub taken-within : (s : Span ℕ) (owners : Owners) (u : ℤ) (owner : Option (Span ℕ)) (b : Bool) → s.start ≤ℤ u → u <ℤ s.until → owners u ≡ owner → claims s owner ≡ b → taken s owners u ≡ cond b (Some s) owner
-taken-within s owners u owner b from before is claim =
-    ap (λ t. cond (t && claims s (owners u)) (Some s) (owners u)) (covers-between s u from before)
-    ∙ ap (λ o. cond (claims s o) (Some s) o) is ∙ ap (λ t. cond t (Some s) owner) claim
+taken-within s owners u owner b from before is claim = grind (arith, ints, common_steps)
 
 -- nothing is taken where the span has no claim
 pub taken-unclaimed : (s : Span ℕ) (owners : Owners) (u : ℤ) → claims s (owners u) ≡ false → taken s owners u ≡ owners u
-taken-unclaimed s owners u none = by_test (covers s u)
-  where
-    by_test : (b : Bool) → cond (b && claims s (owners u)) (Some s) (owners u) ≡ owners u
-    by_test true = ap (λ t. cond t (Some s) (owners u)) none
-    by_test false = refl
+taken-unclaimed s owners u none = grind (arith, ints, common_steps)
 
 -- where the span has no claim on an owner, he stays
 pub taken-kept : (s : Span ℕ) (owners : Owners) (u : ℤ) (owner : Span ℕ) → owners u ≡ Some owner → outranks s owner ≡ false → taken s owners u ≡ Some owner
 taken-kept s owners u owner is below = taken-unclaimed s owners u (ap (claims s) is ∙ below) ∙ is
+
+pub taken_to-before : (s : Span ℕ) (t : ℤ) (owners : Owners) (u : ℤ) → u <ℤ t → taken_to s t owners u ≡ taken s owners u
+taken_to-before s t owners u h = ap (λ b. cond b (taken s owners u) (owners u)) (int_lt-below u t h)
+
+pub taken_to-after : (s : Span ℕ) (t : ℤ) (owners : Owners) (u : ℤ) → t ≤ℤ u → taken_to s t owners u ≡ owners u
+taken_to-after s t owners u h = ap (λ b. cond b (taken s owners u) (owners u)) (int_lt-above u t h)
+
+-- to go on later where nothing is taken is to stay
+pub taken_to-on : (s : Span ℕ) (t n : ℤ) (owners : Owners) → t ≤ℤ n → ((u : ℤ) → t ≤ℤ u → u <ℤ n → taken s owners u ≡ owners u) → taken_to s t owners ≡ taken_to s n owners
+taken_to-on s t n owners on none = grind (arith, ints, common_steps)
+
+-- before the span starts nothing is taken
+pub taken_to-start : (s : Span ℕ) (owners : Owners) → owners ≡ taken_to s s.start owners
+taken_to-start s owners = grind (arith, ints, common_steps)
+
+pub taken_to-until : (s : Span ℕ) (owners : Owners) → taken_to s s.until owners ≡ taken s owners
+taken_to-until s owners = grind (arith, ints, common_steps)
+
+-- an empty span takes nothing
+pub taken-empty : (s : Span ℕ) (owners : Owners) → s.until ≤ℤ s.start → owners ≡ taken s owners
+taken-empty s owners empty = grind (arith, ints, common_steps)

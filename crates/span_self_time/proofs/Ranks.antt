@@ -1,6 +1,6 @@
 -- That the ranking of spans with different positions is a strict order.
 use Rattle.std.specs.Bool.{Decides}
-use Rattle.std.proofs.{Common.{◌≡◌, ◌<◌, true, false, ◌||◌, ℤ, ◌<ℤ◌, int_lt, ◌≢◌, List, [], ◌∷◌, sym, ◌∙◌, arith, inl, inr, ◌⊎◌}, lemmas.{Bool.Decides.{nat_tests, Decides-or, Decides-and, Decides-int_eq, Decides-ltb}, Int.ints}}
+use Rattle.std.proofs.{Common.{◌≡◌, ◌<◌, true, false, ◌||◌, ℤ, ◌<ℤ◌, int_lt, ◌≢◌, List, [], ◌∷◌, sym, ◌∙◌, arith, inl, inr, ◌⊎◌}, lemmas.{Grind.common_steps, Bool.Decides.{nat_tests}, Int.ints}}
 use Rattle.span_self_time.specs.{Laws.{IsApart, AreSpans}, Spans.{Span, outranks}}
 use Rattle.span_self_time.proofs.Tops.{IsConnected, IsRanked}
 
@@ -16,11 +16,7 @@ module _ {N : Type 0} where
   IsAbove a b = (b.start <ℤ a.start) ⊎ ((a.start ≡ b.start) × ((a.until <ℤ b.until) ⊎ ((a.until ≡ b.until) × (b.at < a.at))))
 
   pub Decides-outranks : (a b : Span N) → Decides (outranks a b) (IsAbove a b)
-  Decides-outranks a b =
-      Decides-or _ _ (Decides-int_lt b.start a.start)
-      (Decides-and _ _ (Decides-int_eq a.start b.start)
-      (Decides-or _ _ (Decides-int_lt a.until b.until)
-      (Decides-and _ _ (Decides-int_eq a.until b.until) (Decides-ltb b.at a.at))))
+  Decides-outranks a b = grind (arith, ints, common_steps)
 
   IsAbove-trans : (a b c : Span N) → IsAbove a b → IsAbove b c → IsAbove a c
   IsAbove-trans a b c (inl h) (inl k) = inl (omega (arith, ints))

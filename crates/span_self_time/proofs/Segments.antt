@@ -1,5 +1,5 @@
 -- What segments in order say of a tick, and that the segments of the time of spans are their segments.
-use Rattle.std.proofs.{Common.{◌≡◌, ◌≢◌, ℕ, nat_eq, Bool, true, false, ◌&&◌, ◌||◌, ℤ, ◌≤ℤ◌, ◌<ℤ◌, List, [], ◌∷◌, map, Some, refl, sym, ap, ap₂, ◌∙◌, arith, All, get_or}, lemmas.{Bool.{ne_eqb, and_right, or_from}, Int.{ints, by_lt_z}, List.Elements.{All-nil, All-cons}}}
+use Rattle.std.proofs.{Common.{◌≡◌, ◌≢◌, ℕ, nat_eq, Bool, true, false, ◌&&◌, ◌||◌, ℤ, ◌≤ℤ◌, ◌<ℤ◌, List, [], ◌∷◌, map, Some, refl, sym, ap, ap₂, ◌∙◌, arith, All, get_or}, lemmas.{Grind.common_steps, Bool.{ne_eqb, and_right, or_from}, Int.{ints, by_lt_z}, List.Elements.{All-nil, All-cons}}}
 use Rattle.span_self_time.specs.{least_time, Closed.AreClosed, Division.{Owners, bare, owners_of, owner_of, AreFuture, AreOwnedSegments}, Laws.AreSpans, Segments.{lies_in, is_in_segment, IsRightBefore, AreInOrder, AreSegments, HasSegmentsWith}, Spans.Span, declared.segment.{OwnedSegment.OwnedSegment, Segment.Segment}}
 use Rattle.span_self_time.proofs.{Apart.All-apart, Owners.{is_of, owners_of-All, is_on_top-owners_of}}
 
@@ -23,9 +23,7 @@ AreFrom-until g (h ∷ segments) before = before.0
 
 pub is_in_segment-before : (t : ℤ) (segments : List Segment) → AreInOrder segments → AreFrom t segments → (at : ℕ) (u : ℤ) → u <ℤ t → is_in_segment segments at u ≡ false
 is_in_segment-before t [] order from at u early = refl
-is_in_segment-before t (g ∷ segments) order from at u early =
-    or_from _ _ (and_right _ _ (lies_in-before g u (omega (arith, ints))))
-    (is_in_segment-before g.until segments order.2 (AreFrom-until g segments order.1) at u (omega (arith, ints)))
+is_in_segment-before t (g ∷ segments) order from at u early = grind (arith, ints, common_steps, or_from, and_right, lies_in-before, AreFrom-until, is_in_segment-before g.until segments order.2 (AreFrom-until g segments order.1) at u (omega (arith, ints)))
 
 with_head : (b : Bool) → ((b && true) || false) ≡ b
 with_head true = refl
@@ -77,12 +75,7 @@ module _ (owners : Owners) (single : AreSingle owners) where
   -- where two segments touch, their owners differ, so their positions do
   IsRightBefore-owned : (p : OwnedSegment) (owned : List OwnedSegment) → owners p.segment.start ≡ Some (owner_of p) → owners p.segment.until ≢ Some (owner_of p) → AreFuture owners p.segment.until owned → IsRightBefore p.segment (plain_segments owned)
   IsRightBefore-owned p [] starts ends future = tt
-  IsRightBefore-owned p (q ∷ owned) starts ends future = (
-    future.0,
-    λ touch same.
-        let here = future.3 q.segment.start (omega (arith, ints)) future.2 in
-        ends (ap owners touch ∙ here ∙ ap Some (sym (single p.segment.start q.segment.start (owner_of p) (owner_of q) starts here same))),
-  )
+  IsRightBefore-owned p (q ∷ owned) starts ends future = grind (arith, ints, common_steps)
 
   AreInOrder-owned : (t : ℤ) (owned : List OwnedSegment) → AreFuture owners t owned → AreInOrder (plain_segments owned)
   AreInOrder-owned t [] future = tt
@@ -102,12 +95,7 @@ module _ (owners : Owners) (single : AreSingle owners) where
       (λ late. is_in_segment-tail p.segment (plain_segments owned) at u late ∙ is_in_segment-owned p.segment.until owned future.5 at u late))
 
   is_in_segment-AreOwnedSegments : (owned : List OwnedSegment) → AreOwnedSegments owners owned → (at : ℕ) (u : ℤ) → is_in_segment (plain_segments owned) at u ≡ is_of at (owners u)
-  is_in_segment-AreOwnedSegments owned are at u =
-      by_lt_z u least_time
-      (λ early.
-      is_in_segment-before least_time (plain_segments owned) (AreInOrder-owned least_time owned are.each) (AreFrom-owned owners least_time owned are.each) at u early
-      ∙ sym (ap (is_of at) (are.nothing u early)))
-      (λ from. is_in_segment-owned least_time owned are.each at u from)
+  is_in_segment-AreOwnedSegments owned are at u = grind (arith, ints, common_steps, by_lt_z, is_in_segment-before, AreInOrder-owned, AreFrom-owned, is_in_segment-owned)
 
 -- no other of the spans has the position of this one
 abbrev IsAlone : List (Span ℕ) → Span ℕ → Type 0
@@ -136,10 +124,7 @@ module _ (spans : List (Span ℕ)) (are : AreSpans spans) where
 
   names-owned : (t : ℤ) (owned : List OwnedSegment) → AreFuture (owners_of spans) t owned → All (IsNamed spans) (plain_segments owned)
   names-owned t [] future = All-nil (IsNamed spans)
-  names-owned t (p ∷ owned) future =
-      All-cons (IsNamed spans) p.segment (plain_segments owned)
-      (names-owners_of p.segment.start (owner_of p) (future.3 p.segment.start (omega (arith, ints)) future.2))
-      (names-owned p.segment.until owned future.5)
+  names-owned t (p ∷ owned) future = grind (arith, ints, common_steps, All-cons, names-owners_of, names-owned p.segment.until owned future.5)
 
 -- the segments of the time of closed spans are the segments that they make
 pub AreSegments-owned : (spans : List (Span ℕ)) (owned : List OwnedSegment) → AreClosed spans → AreOwnedSegments (owners_of spans) owned → AreSegments spans (map (λ p. p.segment) owned)

@@ -6,4 +6,3 @@ pub mod Joining
 pub mod Listing
 pub mod Searching
 pub mod StretchOwners
-pub mod Times

@@ -1,6 +1,7 @@
 -- To which span each tick belongs, and the segments of time that are of one span, whichever way they are kept.
 pub mod Lengths
 pub mod Lone
+pub mod OwnTimes
 pub mod SegmentStacks
 pub mod TimeMap
 pub mod Ways
@@ -26,6 +27,10 @@ claims s (Some owner) = outranks s owner
 
 abbrev pub taken : Span ℕ → Owners → Owners
 taken s owners u = if covers s u && claims s (owners u) then Some s else owners u
+
+-- the owners once the span has taken what is its own before t
+abbrev pub taken_to : Span ℕ → ℤ → Owners → Owners
+taken_to s t owners u = if int_lt u t then taken s owners u else owners u
 
 -- to whom these spans leave each tick, when one after another takes its own
 abbrev pub owners_of : List (Span ℕ) → Owners

@@ -74,8 +74,8 @@ impl Division {
     {
         match &self.way {
             Way::Lone(lone) => lone::self_of(lone, name),
-            Way::Stacked(stacks) => stacks.self_of(name),
-            Way::Searched(time_map) => time_map.self_of(name),
+            Way::Stacked(stacks) => stacks.times.self_of(name),
+            Way::Searched(time_map) => time_map.times.self_of(name),
         }
     }
 
@@ -86,8 +86,8 @@ impl Division {
     {
         match &self.way {
             Way::Lone(lone) => lone::busy(lone),
-            Way::Stacked(stacks) => stacks.busy(),
-            Way::Searched(time_map) => time_map.busy(),
+            Way::Stacked(stacks) => stacks.times.busy(),
+            Way::Searched(time_map) => time_map.times.busy(),
         }
     }
 
@@ -99,7 +99,7 @@ impl Division {
         match &self.way {
             Way::Lone(lone) => lone::segment_count(lone),
             Way::Stacked(stacks) => stacks.segment_count(),
-            Way::Searched(time_map) => time_map.segment_count(),
+            Way::Searched(time_map) => time_map.stretches.segment_count(),
         }
     }
 
@@ -111,7 +111,7 @@ impl Division {
         match &self.way {
             Way::Lone(lone) => lone::segment(lone, i),
             Way::Stacked(stacks) => stacks.segment(i),
-            Way::Searched(time_map) => time_map.segment(i),
+            Way::Searched(time_map) => time_map.stretches.segment(i),
         }
     }
 
@@ -204,7 +204,7 @@ impl Way {
         match self {
             Way::Lone(lone) => lone::add_lengths(lone, times),
             Way::Stacked(stacks) => stacks.add_lengths(times),
-            Way::Searched(time_map) => time_map.add_lengths(times),
+            Way::Searched(time_map) => time_map.stretches.add_lengths(times),
         }
     }
 

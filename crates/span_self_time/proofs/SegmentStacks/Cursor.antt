@@ -1,5 +1,5 @@
 -- How the cursor between the stacks moves from one segment to the next.
-use Rattle.std.proofs.{Common.{◌≡◌, ◌≢◌, ◌++◌, ℤ, pos, ◌-ℤ◌, ◌≤ℤ◌, List, [], ◌∷◌, reverse, Some, None, false, sym, ap, ◌∙◌, subst, arith}, lemmas.{Int.{ints, by_lt_z}, List.{reverse-reverse, append-nil, append_assoc, reverse-append}}}
+use Rattle.std.proofs.{Common.{◌≡◌, ◌≢◌, ◌++◌, ℤ, pos, ◌-ℤ◌, ◌≤ℤ◌, List, [], ◌∷◌, reverse, Some, None, false, sym, ap, ◌∙◌, subst, arith}, lemmas.{Grind.common_steps, Int.{ints, by_lt_z}, List.{reverse-reverse, append-nil, append_assoc, reverse-append}}}
 use Rattle.span_self_time.specs.{least_time, Closed.greatest_until, Division.{Owners, owner_of, Belong, AreFuture, AreOwnedSegments, SegmentStacks.{ArePast, IsChange, lasts_beyond, starts_before}}, declared.segment.OwnedSegment.OwnedSegment}
 
 reverse-onto : {A : Type 0} (x : A) (xs ys : List A) → reverse (x ∷ xs) ++ ys ≡ reverse xs ++ x ∷ ys
@@ -55,12 +55,7 @@ AreFuture-none owners t later (p ∷ ps) starts future u from before = future.1 
 
 -- where the last owner before t is not that at t, the segment at t has another owner before it
 change_at : (owners : Owners) (t : ℤ) (p : OwnedSegment) (ps : List OwnedSegment) → AreFuture owners t (p ∷ ps) → IsChange owners owners t → owners (p.segment.start -ℤ pos 1) ≢ Some (owner_of p)
-change_at owners t p ps future change =
-    let starts = future.3 p.segment.start (omega (arith, ints)) future.2 in
-    by_lt_z t p.segment.start
-    (λ k same. Some≢None (sym same ∙ future.1 (p.segment.start -ℤ pos 1) (omega (arith, ints)) (omega (arith, ints))))
-    (λ k same. let at : p.segment.start ≡ t = omega (arith, ints, future.0) in
-    change (owner_of p) (ap (λ u. owners (u -ℤ pos 1)) (sym at) ∙ same) (ap owners (sym at) ∙ starts))
+change_at owners t p ps future change = grind (arith, ints, common_steps)
 
 -- the cursor stands at t
 pub record IsCursor (owners : Owners) (t : ℤ) (past future : List OwnedSegment) : Type 0 where
@@ -69,33 +64,10 @@ pub record IsCursor (owners : Owners) (t : ℤ) (past future : List OwnedSegment
   pub change : IsChange owners owners t
 
 IsCursor-on : (owners : Owners) (t : ℤ) (past : List OwnedSegment) (p : OwnedSegment) (future : List OwnedSegment) → IsCursor owners t past (p ∷ future) → IsCursor owners p.segment.until (p ∷ past) future
-IsCursor-on owners t past p future at = record {
-  before = (omega (arith, ints), (λ u from before. absurd (omega (arith, ints))), at.after.2, at.after.3, change_at owners t p future at.after at.change, ArePast-later owners t p.segment.start past at.after.0 at.after.1 at.before);
-  after = at.after.5;
-  change = λ owner before from.
-      let here : owners (p.segment.until -ℤ pos 1) ≡ Some (owner_of p) = at.after.3 (p.segment.until -ℤ pos 1) (omega (arith, ints, at.after.2)) (omega (arith, ints)) in
-      at.after.4 (from ∙ sym before ∙ here);
-}
+IsCursor-on owners t past p future at = grind (arith, ints, common_steps, ArePast-later)
 
 IsCursor-back : (owners : Owners) (t : ℤ) (p : OwnedSegment) (past future : List OwnedSegment) → IsCursor owners t (p ∷ past) future → IsCursor owners p.segment.start past (p ∷ future)
-IsCursor-back owners t p past future at =
-    let starts : owners p.segment.start ≡ Some (owner_of p) = at.before.3 p.segment.start (omega (arith, ints)) at.before.2 in
-    let ends : owners (p.segment.until -ℤ pos 1) ≡ Some (owner_of p) = at.before.3 (p.segment.until -ℤ pos 1) (omega (arith, ints, at.before.2)) (omega (arith, ints)) in
-    record {
-      before = at.before.5;
-      after = (
-        omega (arith, ints),
-        (λ u from before. absurd (omega (arith, ints))),
-        at.before.2,
-        at.before.3,
-        by_lt_z p.segment.until t
-            (λ k same. Some≢None (sym same ∙ at.before.1 p.segment.until (omega (arith, ints)) k))
-            (λ k same. let here : p.segment.until ≡ t = omega (arith, ints, at.before.0) in
-            at.change (owner_of p) (ap (λ u. owners (u -ℤ pos 1)) (sym here) ∙ ends) (ap owners (sym here) ∙ same)),
-        AreFuture-sooner owners t p.segment.until future at.before.0 at.before.1 at.after,
-      );
-      change = λ owner before from. at.before.4 (before ∙ sym from ∙ starts);
-    }
+IsCursor-back owners t p past future at = grind (arith, ints, common_steps, by_lt_z, AreFuture-sooner)
 
 -- the cursor stands at some time
 pub record HasCursor (owners : Owners) (past future : List OwnedSegment) : Type 0 where
@@ -104,9 +76,7 @@ pub record HasCursor (owners : Owners) (past future : List OwnedSegment) : Type 
 
 HasCursor-on : (owners : Owners) (t : ℤ) (segments past future : List OwnedSegment) → IsCursor owners t past (segments ++ future) → HasCursor owners (reverse segments ++ past) future
 HasCursor-on owners t [] past future at = record { time = t; at = at }
-HasCursor-on owners t (p ∷ segments) past future at =
-    let rest = HasCursor-on owners p.segment.until segments (p ∷ past) future (IsCursor-on owners t past p (segments ++ future) at) in
-    subst (λ l. HasCursor owners l future) (sym (reverse-onto p segments past)) rest
+HasCursor-on owners t (p ∷ segments) past future at = grind (arith, ints, common_steps, IsCursor-on, reverse-onto, HasCursor-on owners p.segment.until segments (p ∷ past) future (IsCursor-on owners t past p (segments ++ future) at))
 
 -- segments that are the whole time have a cursor between any two
 pub HasCursor-segments : (owners : Owners) (past future : List OwnedSegment) → AreOwnedSegments owners (past ++ future) → HasCursor owners (reverse past) future
@@ -115,10 +85,7 @@ HasCursor-segments owners past future are =
     subst (λ l. HasCursor owners l future) (append-nil (reverse past)) at
 
 AreOwnedSegments-back : (owners : Owners) (t : ℤ) (past future : List OwnedSegment) → IsCursor owners t past future → AreOwnedSegments owners (reverse past ++ future)
-AreOwnedSegments-back owners t [] future at = record {
-  nothing = λ u before. at.before.1 u (omega (arith, ints, at.before.0));
-  each = AreFuture-sooner owners t least_time future at.before.0 (λ u from before. at.before.1 u before) at.after;
-}
+AreOwnedSegments-back owners t [] future at = grind (arith, ints, common_steps, AreFuture-sooner)
 AreOwnedSegments-back owners t (p ∷ past) future at =
     subst (λ l. AreOwnedSegments owners l) (sym (reverse-onto p past future)) (AreOwnedSegments-back owners p.segment.start past (p ∷ future) (IsCursor-back owners t p past future at))
 
@@ -145,8 +112,4 @@ IsCursor-within owners t time past future least ends starts at =
 
 -- a cursor before a segment can stand right before it
 pub IsCursor-before : (owners : Owners) (t : ℤ) (past : List OwnedSegment) (p : OwnedSegment) (future : List OwnedSegment) → IsCursor owners t past (p ∷ future) → IsCursor owners p.segment.start past (p ∷ future)
-IsCursor-before owners t past p future at = record {
-  before = ArePast-later owners t p.segment.start past at.after.0 at.after.1 at.before;
-  after = (omega (arith, ints), (λ u from before. absurd (omega (arith, ints))), at.after.2, at.after.3, at.after.4, at.after.5);
-  change = λ owner before from. change_at owners t p future at.after at.change (before ∙ sym from ∙ at.after.3 p.segment.start (omega (arith, ints)) at.after.2);
-}
+IsCursor-before owners t past p future at = grind (arith, ints, common_steps, ArePast-later)

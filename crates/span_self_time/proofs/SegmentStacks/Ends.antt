@@ -1,20 +1,9 @@
 -- How segments move between the past and the future of a cursor, and what lies at the two ends that meet there.
-use Rattle.std.proofs.{Common.{◌≡◌, ◌≤◌, ◌<◌, ℕ, ◌+◌, ◌-◌, length, length-append, get_or, ℤ, ◌<ℤ◌, int_le, true, false, true≢false, List, [], ◌∷◌, ◌++◌, reverse, slice_get, Some, refl, sym, ap, ◌∙◌, arith}, lemmas.{Int.ints, List.{reverse-append, append_assoc, length-reverse, get_or-append_right, get_or-reverse}, Option.slice_get-get_or}}
-use Rattle.span_self_time.specs.{Division.{Owners, AreFuture, SegmentStacks.{segments_of, ends_by, lasts_beyond, starts_before}}, declared.segment.OwnedSegment.OwnedSegment}
+use Rattle.std.proofs.{Common.{◌≡◌, ◌≤◌, ◌<◌, ℕ, ◌+◌, ◌-◌, length, length-append, get_or, ℤ, ◌<ℤ◌, true, true≢false, List, [], ◌∷◌, ◌++◌, reverse, slice_get, Some, refl, sym, ap, ◌∙◌, arith}, lemmas.{Int.ints, List.{reverse-append, length-reverse, get_or-append_right, get_or-reverse}, Option.slice_get-get_or}}
+use Rattle.span_self_time.specs.{Division.{Owners, AreFuture, SegmentStacks.{segments_of, starts_before}}, declared.segment.OwnedSegment.OwnedSegment}
 
 pub reverse-push : {A : Type 0} (xs : List A) (x : A) → reverse (xs ++ x ∷ []) ≡ x ∷ reverse xs
 reverse-push xs x = reverse-append xs (x ∷ [])
-
--- the segment at the cursor is the last before it or the first behind it
-pub segments_of-push : (past future : List OwnedSegment) (p : OwnedSegment) → segments_of past (future ++ p ∷ []) ≡ segments_of (past ++ p ∷ []) future
-segments_of-push past future p =
-    ap (λ l. past ++ l) (reverse-push future p) ∙ sym (append_assoc past (p ∷ []) (reverse future))
-
--- a segment that ends by t may join the past
-pub lasts_beyond-push : (t : ℤ) (past future : List OwnedSegment) (p : OwnedSegment) → ends_by t (reverse (future ++ p ∷ [])) ≡ true → lasts_beyond t (reverse (past ++ p ∷ [])) ≡ false
-lasts_beyond-push t past future p ends =
-    let here : int_le p.segment.until t ≡ true = sym (ap (ends_by t) (reverse-push future p)) ∙ ends in
-    rw (reverse-push past p) (grind (arith, ints))
 
 -- the time before a segment is sooner than any by which the segment has started
 pub starts_before-future : (owners : Owners) (t until : ℤ) (segments : List OwnedSegment) → AreFuture owners t segments → starts_before until segments ≡ true → t <ℤ until

@@ -1,69 +1,31 @@
 -- What a new span leaves of the time when it has taken its own.
-use Rattle.std.specs.Int.{int_min}
-use Rattle.std.proofs.{Common.{◌≡◌, ◌≢◌, ℕ, ◌++◌, ℤ, pos, ◌-ℤ◌, ◌≤ℤ◌, ◌<ℤ◌, int_le, int_lt, Bool, true, false, ◌&&◌, cond, List, [], ◌∷◌, length, reverse, Some, None, refl, sym, ap, ◌∙◌, subst, arith}, lemmas.{Int.{ints, clamps, by_lt_z}, List.append-nil}}
-use Rattle.span_self_time.specs.{least_time, Division.{Owners, owner_of, claims, taken, Belong, AreFuture, IsNew, AreOwnedSegments, between, SegmentStacks.{ArePast, IsOnly, segments_of, piece, starts_before, ends_by, IsTakenTo, IsNextSegment, IsAtStart}}, Spans.{Span, covers, outranks}, declared.segment.OwnedSegment.OwnedSegment}
-use Rattle.span_self_time.proofs.{Counts.int_lt-above, Owners.{taken-before, taken-after, taken-within, taken-kept}, SegmentStacks.{Cursor.{StartsFrom, EndsBy-lasts_beyond, AreFuture-none, AreFuture-later, HasCursor-segments, IsCursor-within, IsCursor-before, AreOwnedSegments-cursor}, Ends.reverse-push}}
+use Rattle.std.specs.{Int.int_min, Global.Vec, Vec.{vec_len, vec_capacity}}
+use Rattle.std.proofs.{Common.{◌≡◌, ◌≢◌, ℕ, ◌++◌, ℤ, pos, ◌-ℤ◌, ◌≤ℤ◌, ◌<ℤ◌, int_le, int_lt, true, false, cond, List, [], ◌∷◌, length, reverse, Some, None, refl, sym, ap, ◌∙◌, subst, arith, ◌≤◌, ◌<◌, ◌+◌}, lemmas.{Grind.common_steps, Int.{ints, clamps}}}
+use Rattle.span_self_time.specs.{Division.{Owners, owner_of, claims, taken, taken_to, Belong, AreFuture, IsNew, AreOwnedSegments, between, OwnTimes.{IsReplaced, AreTimes}, SegmentStacks.{ArePast, IsOnly, segments_of, piece, starts_before, ends_by, IsTakenTo, IsNextSegment, IsAtStart, IsEntering, IsTaking, IsAhead, IsPassing}}, Spans.{Span, outranks}, declared.{segment.OwnedSegment.OwnedSegment, division.segment_stacks.SegmentStacks.SegmentStacks}}
+use Rattle.span_self_time.proofs.{Counts.int_lt-above, Owners.{taken-before, taken-after, taken-within, taken-kept, taken-unclaimed, taken_to-on, taken_to-start}, SegmentStacks.{Cursor.{StartsFrom, EndsBy-lasts_beyond, AreFuture-none, AreFuture-later, HasCursor-segments, IsCursor-within, IsCursor-before, AreOwnedSegments-cursor}, Ends.reverse-push}, Times.IsReplaced-claimed}
 
 -- whom the new span's position names is the span itself
 pub IsOnly-taken : (s : Span ℕ) (owners : Owners) → IsNew s owners → IsOnly s (taken s owners)
-IsOnly-taken s owners new u owner is at = by_test (covers s u && claims s (owners u)) is
-  where
-    by_test : (b : Bool) → cond b (Some s) (owners u) ≡ Some owner → owner ≡ s
-    by_test true here = cc
-    by_test false here = absurd (new u owner here at)
+IsOnly-taken s owners new u owner is at = grind (arith, ints, common_steps)
 
 -- the past of owners who agree before t
 pub ArePast-same : (a b : Owners) (t : ℤ) (ps : List OwnedSegment) → ((u : ℤ) → u <ℤ t → b u ≡ a u) → ArePast a t ps → ArePast b t ps
 ArePast-same a b t [] same past = (past.0, λ u before. same u before ∙ past.1 u before)
-ArePast-same a b t (p ∷ ps) same past = (
-  past.0,
-  (λ u from before. same u before ∙ past.1 u from before),
-  past.2,
-  (λ u from before. same u (omega (arith, ints, past.0)) ∙ past.3 u from before),
-  (λ here. past.4 (sym (same (p.segment.start -ℤ pos 1) (omega (arith, ints, past.0, past.2))) ∙ here)),
-  ArePast-same a b p.segment.start ps (λ u before. same u (omega (arith, ints, past.0, past.2))) past.5,
-)
+ArePast-same a b t (p ∷ ps) same past = grind (arith, ints, common_steps, ArePast-same a b p.segment.start ps (λ u before. same u (omega (arith, ints, past.0, past.2))) past.5)
 
 -- the future of owners who agree from t on
 pub AreFuture-same : (a b : Owners) (t : ℤ) (ps : List OwnedSegment) → ((u : ℤ) → t ≤ℤ u → b u ≡ a u) → AreFuture a t ps → AreFuture b t ps
 AreFuture-same a b t [] same future = (future.0, λ u from. same u from ∙ future.1 u from)
-AreFuture-same a b t (p ∷ ps) same future = (
-  future.0,
-  (λ u from before. same u from ∙ future.1 u from before),
-  future.2,
-  (λ u from before. same u (omega (arith, ints, future.0)) ∙ future.3 u from before),
-  (λ here. future.4 (sym (same p.segment.until (omega (arith, ints, future.0, future.2))) ∙ here)),
-  AreFuture-same a b p.segment.until ps (λ u from. same u (omega (arith, ints, future.0, future.2))) future.5,
-)
+AreFuture-same a b t (p ∷ ps) same future = grind (arith, ints, common_steps, AreFuture-same a b p.segment.until ps (λ u from. same u (omega (arith, ints, future.0, future.2))) future.5)
 
 -- one more segment of the past
 pub ArePast-push : (owners : Owners) (p : OwnedSegment) (ps : List OwnedSegment) → p.segment.start <ℤ p.segment.until → Belong owners p.segment.start p.segment.until (Some (owner_of p)) → owners (p.segment.start -ℤ pos 1) ≢ Some (owner_of p) → ArePast owners p.segment.start ps → ArePast owners p.segment.until (p ∷ ps)
 ArePast-push owners p ps lasts belongs start past =
     (omega (arith, ints), (λ u from before. absurd (omega (arith, ints))), lasts, belongs, start, past)
 
--- what lies of a segment before `from` stays past
-ArePast-piece : (owners : Owners) (p : OwnedSegment) (from : ℤ) (past : List OwnedSegment) → p.segment.start ≤ℤ from → from <ℤ p.segment.until → Belong owners p.segment.start from (Some (owner_of p)) → owners (p.segment.start -ℤ pos 1) ≢ Some (owner_of p) → ArePast owners p.segment.start (reverse past) → ArePast owners from (reverse (past ++ piece p p.segment.start from))
-ArePast-piece owners p from past first then belongs start before = by_test (int_lt p.segment.start from) refl
-  where
-    by_test : (b : Bool) → int_lt p.segment.start from ≡ b → ArePast owners from (reverse (past ++ cond b (between p p.segment.start from ∷ []) []))
-    by_test true h =
-        rw (reverse-push past (between p p.segment.start from))
-        (ArePast-push owners (between p p.segment.start from) (reverse past) (omega (arith, ints)) belongs start before)
-    by_test false h =
-        let here : p.segment.start ≡ from = omega (arith, ints) in
-        rw (append-nil past) (subst (λ t. ArePast owners t (reverse past)) here before)
-
 -- what lies of a segment from `until` on is the future
 AreFuture-piece : (owners : Owners) (p : OwnedSegment) (until : ℤ) (future : List OwnedSegment) → p.segment.start ≤ℤ until → until ≤ℤ p.segment.until → Belong owners p.segment.start p.segment.until (Some (owner_of p)) → owners p.segment.until ≢ Some (owner_of p) → AreFuture owners p.segment.until (reverse future) → AreFuture owners until (reverse (future ++ piece p until p.segment.until))
-AreFuture-piece owners p until future first then belongs end after = by_test (int_lt until p.segment.until) refl
-  where
-    by_test : (b : Bool) → int_lt until p.segment.until ≡ b → AreFuture owners until (reverse (future ++ cond b (between p until p.segment.until ∷ []) []))
-    by_test true h =
-        rw (reverse-push future (between p until p.segment.until))
-        (omega (arith, ints), (λ u from before. absurd (omega (arith, ints))), omega (arith, ints), (λ u from before. belongs u (omega (arith, ints)) before), end, after)
-    by_test false h =
-        let here : p.segment.until ≡ until = omega (arith, ints) in
-        rw (append-nil future) (subst (λ t. AreFuture owners t (reverse future)) here after)
+AreFuture-piece owners p until future first then belongs end after = grind (arith, ints, common_steps)
 
 -- how far the span takes the segment
 pub record IsTakenUpTo (s : Span ℕ) (from until : ℤ) (p : OwnedSegment) : Type 0 where
@@ -85,13 +47,13 @@ pub Belong-ceded : (s : Span ℕ) (from until : ℤ) (p : OwnedSegment) (past fu
 Belong-ceded s from until p past future owners next above up = λ u after before.
     taken-within s owners u (Some (owner_of p)) true (omega (arith, ints, next.begins)) (omega (arith, ints, up.covered)) (next.belongs u (omega (arith, ints, next.within)) (omega (arith, ints, up.within))) above
 
+pub IsReplaced-ceded : (s : Span ℕ) (from until : ℤ) (p : OwnedSegment) (past future : List OwnedSegment) (owners : Owners) → IsNextSegment s from p past future owners → outranks s (owner_of p) ≡ true → IsTakenUpTo s from until p → IsReplaced (taken_to s from owners) (taken_to s until owners) from until (Some (owner_of p)) (Some s)
+IsReplaced-ceded s from until p past future owners next above up =
+    IsReplaced-claimed s from until (Some (owner_of p)) owners next.in_time next.begins up.forward up.covered (λ u after before. next.belongs u (omega (arith, ints, next.within)) (omega (arith, ints, up.within))) above
+
 -- what lies of the segment before that stays
 pub ArePast-ceded : (s : Span ℕ) (from : ℤ) (p : OwnedSegment) (past future : List OwnedSegment) (owners : Owners) → IsNextSegment s from p past future owners → ArePast (taken s owners) from (reverse (past ++ piece p p.segment.start from))
-ArePast-ceded s from p past future owners next =
-    let head : Belong (taken s owners) p.segment.start from (Some (owner_of p)) = λ u after before.
-    let start : from ≡ s.start = next.head (omega (arith, ints)) in
-    taken-before s owners u (omega (arith, ints, start)) ∙ next.belongs u after (omega (arith, ints, next.within)) in
-    ArePast-piece (taken s owners) p from past next.within.0 next.within.1 head next.start next.before
+ArePast-ceded s from p past future owners next = grind (arith, ints, common_steps)
 
 -- the span that outranks the segment's owner takes it up to `until`; `gained` is the past with that
 pub IsTakenTo-ceded : (s : Span ℕ) (from until : ℤ) (p : OwnedSegment) (past gained future : List OwnedSegment) (owners : Owners) → IsNextSegment s from p past future owners → outranks s (owner_of p) ≡ true → IsTakenUpTo s from until p → ArePast (taken s owners) until (reverse gained) → IsTakenTo s until gained (future ++ piece p until p.segment.until) owners
@@ -124,6 +86,10 @@ IsTakenTo-kept s from p past future owners next below =
           next.until (here ∙ own);
     }
 
+pub taken_to-kept : (s : Span ℕ) (from : ℤ) (p : OwnedSegment) (past future : List OwnedSegment) (owners : Owners) → IsNextSegment s from p past future owners → outranks s (owner_of p) ≡ false → taken_to s from owners ≡ taken_to s p.segment.until owners
+taken_to-kept s from p past future owners next below =
+    taken_to-on s from p.segment.until owners (omega (arith, ints, next.within)) (λ u after before. taken-unclaimed s owners u (ap (claims s) (next.belongs u (omega (arith, ints, next.within)) before) ∙ below))
+
 -- no one owns the time up to the next segment
 pub Belong-gap : (s : Span ℕ) (t until : ℤ) (past future : List OwnedSegment) (owners : Owners) → IsTakenTo s t past future owners → StartsFrom until (reverse future) → until ≤ℤ s.until → Belong (taken s owners) t until (Some s)
 Belong-gap s t until past future owners at starts within u after before =
@@ -132,47 +98,25 @@ Belong-gap s t until past future owners at starts within u after before =
 AreFuture-last : (owners : Owners) (t : ℤ) (p : OwnedSegment) (rest : List OwnedSegment) → AreFuture owners t (reverse (rest ++ p ∷ [])) → AreFuture owners t (p ∷ reverse rest)
 AreFuture-last owners t p rest after = subst (λ l. AreFuture owners t l) (reverse-push rest p) after
 
--- the gap before the segment that comes next
-pub record IsGapBefore (s : Span ℕ) (t : ℤ) (p : OwnedSegment) (owners : Owners) : Type 0 where
-  pub first : t ≤ℤ p.segment.start
-  pub belongs : p.segment.start ≤ℤ s.until → Belong (taken s owners) t p.segment.start (Some s)
+pub before-last : (s : Span ℕ) (t : ℤ) (p : OwnedSegment) (past rest : List OwnedSegment) (owners : Owners) → IsTakenTo s t past (rest ++ p ∷ []) owners → t ≤ℤ p.segment.start
+before-last s t p past rest owners at = (AreFuture-last owners t p rest at.after).0
 
-pub IsGapBefore-taken : (s : Span ℕ) (t : ℤ) (p : OwnedSegment) (past rest : List OwnedSegment) (owners : Owners) → IsTakenTo s t past (rest ++ p ∷ []) owners → IsGapBefore s t p owners
-IsGapBefore-taken s t p past rest owners at =
-    let after = AreFuture-last owners t p rest at.after in
-    record {
-      first = after.0;
-      belongs = λ within u here before. taken-within s owners u None true (omega (arith, ints, at.from)) (omega (arith, ints)) (after.1 u here before) refl;
-    }
+pub StartsFrom-last : (p : OwnedSegment) (rest : List OwnedSegment) → StartsFrom p.segment.start (reverse (rest ++ p ∷ []))
+StartsFrom-last p rest = rw (reverse-push rest p) (omega (arith, ints))
+
+-- the span takes the gap
+pub IsReplaced-gap : (s : Span ℕ) (t until : ℤ) (past future : List OwnedSegment) (owners : Owners) → IsTakenTo s t past future owners → StartsFrom until (reverse future) → t <ℤ until → until ≤ℤ s.until → IsReplaced (taken_to s t owners) (taken_to s until owners) t until None (Some s)
+IsReplaced-gap s t until past future owners at starts later within =
+    IsReplaced-claimed s t until None owners at.in_time at.from later within (AreFuture-none owners t until (reverse future) starts at.after) refl
 
 -- the next segment, whose span has nothing right before it, once the span has taken its own up to there
 IsNextSegment-behind : (s : Span ℕ) (t : ℤ) (p : OwnedSegment) (past new rest : List OwnedSegment) (owners : Owners) → IsTakenTo s t past (rest ++ p ∷ []) owners → p.segment.start <ℤ s.until
     → ArePast (taken s owners) p.segment.start (reverse new) → taken s owners (p.segment.start -ℤ pos 1) ≢ Some (owner_of p) → IsNextSegment s p.segment.start p new rest owners
-IsNextSegment-behind s t p past new rest owners at ends before start =
-    let after = AreFuture-last owners t p rest at.after in
-    record {
-      new = at.new;
-      in_time = at.in_time;
-      begins = omega (arith, ints, at.from, after.0);
-      ends = ends;
-      within = (omega (arith, ints), after.2);
-      head = λ h. absurd (omega (arith, ints));
-      before = before;
-      start = start;
-      belongs = after.3;
-      until = after.4;
-      after = after.5;
-    }
+IsNextSegment-behind s t p past new rest owners at ends before start = grind (arith, ints, common_steps)
 
 -- after the gap before it is filled
 pub IsNextSegment-filled : (s : Span ℕ) (t : ℤ) (p : OwnedSegment) (past filled rest : List OwnedSegment) (owners : Owners) → IsTakenTo s t past (rest ++ p ∷ []) owners → t <ℤ p.segment.start → p.segment.start <ℤ s.until → ArePast (taken s owners) p.segment.start (reverse filled) → IsNextSegment s p.segment.start p filled rest owners
-IsNextSegment-filled s t p past filled rest owners at gap ends before =
-    let after = AreFuture-last owners t p rest at.after in
-    let own = after.3 p.segment.start (omega (arith, ints)) after.2 in
-    IsNextSegment-behind s t p past filled rest owners at ends before (λ here.
-    let filled : Some (owner_of p) ≡ Some s = sym here ∙ taken-within s owners (p.segment.start -ℤ pos 1) None true (omega (arith, ints, at.from)) (omega (arith, ints)) (after.1 (p.segment.start -ℤ pos 1) (omega (arith, ints)) (omega (arith, ints))) refl in
-    let same : owner_of p ≡ s = cc in
-    at.new p.segment.start (owner_of p) own (ap (λ (o : Span ℕ). o.at) same))
+IsNextSegment-filled s t p past filled rest owners at gap ends before = grind (arith, ints, common_steps)
 
 -- where there is no gap before it
 pub IsNextSegment-at : (s : Span ℕ) (t : ℤ) (p : OwnedSegment) (past rest : List OwnedSegment) (owners : Owners) → IsTakenTo s t past (rest ++ p ∷ []) owners → p.segment.start ≤ℤ t → p.segment.start <ℤ s.until → IsNextSegment s p.segment.start p past rest owners
@@ -249,12 +193,23 @@ starts_before-last t rest p future split = ap (starts_before t) (ap reverse spli
 pub piece-none : (p : OwnedSegment) (a b : ℤ) → b ≤ℤ a → length (piece p a b) ≡ 0
 piece-none p a b h = ap (λ t. length (cond t (between p a b ∷ []) [])) (int_lt-above a b h)
 
--- a span of no length takes nothing
-pub AreOwnedSegments-empty : (s : Span ℕ) (segments : List OwnedSegment) (owners : Owners) → s.start ≡ s.until → AreOwnedSegments owners segments → AreOwnedSegments (taken s owners) segments
-AreOwnedSegments-empty s segments owners empty are = record {
-  nothing = λ u before. same u ∙ are.nothing u before;
-  each = AreFuture-same owners (taken s owners) least_time segments (λ u from. same u) are.each;
+pub length-piece : (p : OwnedSegment) (a b : ℤ) → length (piece p a b) ≤ 1
+length-piece p a b = grind (arith, ints, common_steps)
+
+-- the segment that the span starts in is taken out
+pub IsPassing-entering : (s : Span ℕ) (p : OwnedSegment) (t : SegmentStacks) (future : Vec OwnedSegment) (owners : Owners) → IsEntering s t owners
+    → t.future.items ≡ future.items ++ p ∷ [] → vec_len t.future ≡ vec_len future + 1 → vec_len future < vec_capacity future
+    → p.segment.start <ℤ s.start → IsPassing s s.start p (record { past = t.past; future = future; times = t.times }) owners
+IsPassing-entering s p t future owners is split longer behind before = record {
+  next = IsNextSegment-start s p t.past.items future.items t.future.items owners is.start split before;
+  times = subst (λ (o : Owners). AreTimes o t.times) (taken_to-start s owners) is.times;
+  kept = is.kept;
+  room = omega (arith, is.room, longer, length-piece p p.segment.start s.start);
+  room_behind = behind;
 }
-  where
-    same : (u : ℤ) → taken s owners u ≡ owners u
-    same u = by_lt_z u s.start (taken-before s owners u) (λ k. taken-after s owners u (omega (arith, ints, empty)))
+
+-- the next segment is taken out
+pub IsAhead-taking : (s : Span ℕ) (time : ℤ) (p : OwnedSegment) (t : SegmentStacks) (future : Vec OwnedSegment) (owners : Owners) → IsTaking s time t owners
+    → t.future.items ≡ future.items ++ p ∷ [] → vec_len t.future ≡ vec_len future + 1 → vec_len future < vec_capacity future
+    → p.segment.start <ℤ s.until → IsAhead s time p (record { past = t.past; future = future; times = t.times }) owners
+IsAhead-taking s time p t future owners is split longer behind within = grind (arith, ints, common_steps)

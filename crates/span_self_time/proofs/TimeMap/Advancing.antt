@@ -1,14 +1,8 @@
 -- How a new span goes from stretch to stretch.
 use Rattle.std.specs.Option.{option_map}
-use Rattle.std.proofs.{Common.{◌≡◌, ◌≢◌, ◌⊎◌, inl, inr, ℕ, true, false, cond, ℤ, pos, ◌-ℤ◌, ◌≤ℤ◌, ◌<ℤ◌, IsSome, Option, Some, None, refl, sym, ap, ◌∙◌, subst, true≢false, arith}, lemmas.{Bool.{or_cases, false_from_ne_true}, Int.{ints, by_lt_z}, Option.same_Some}}
-use Rattle.span_self_time.specs.{Division.{Owners, owner_of, claims, taken, Belong, TimeMap.{IsEntrant, IsTaking, taken_to, AreTimes, Stretches.{Starts, at, IsNext, IsHeld, IsOfSegment, IsDivided, IsEnd, IsPut}}}, Spans.{Span, covers, outranks}, declared.{division.time_map.TimeMap.TimeMap, segment.OwnedSegment.OwnedSegment}}
-use Rattle.span_self_time.proofs.{Counts.{covers-between, int_lt-above, int_lt-below}, Owners.{taken-before, taken-after, taken-within, taken-unclaimed}, Ranks.{outranks-trans, outranks-either}, TimeMap.{StretchOwners.{by_eq_z, IsSome-Some, IsSome-None, Belong-next, apart, owner-stays}, Times.IsReplaced}}
-
-pub taken_to-before : (s : Span ℕ) (t : ℤ) (owners : Owners) (u : ℤ) → u <ℤ t → taken_to s t owners u ≡ taken s owners u
-taken_to-before s t owners u h = ap (λ b. cond b (taken s owners u) (owners u)) (int_lt-below u t h)
-
-pub taken_to-after : (s : Span ℕ) (t : ℤ) (owners : Owners) (u : ℤ) → t ≤ℤ u → taken_to s t owners u ≡ owners u
-taken_to-after s t owners u h = ap (λ b. cond b (taken s owners u) (owners u)) (int_lt-above u t h)
+use Rattle.std.proofs.{Common.{◌≡◌, ◌≢◌, ◌⊎◌, inl, inr, ℕ, true, false, ℤ, pos, ◌-ℤ◌, ◌≤ℤ◌, ◌<ℤ◌, IsSome, Option, Some, None, sym, ap, ◌∙◌, subst, true≢false, arith}, lemmas.{Grind.common_steps, Bool.{or_cases, false_from_ne_true}, Int.{ints, by_lt_z}}}
+use Rattle.span_self_time.specs.{Division.{Owners, owner_of, claims, taken_to, Belong, OwnTimes.{AreTimes, IsReplaced}, TimeMap.{IsEntrant, IsTaking, Stretches.{Starts, at, IsNext, IsHeld, IsOfSegment, IsDivided, IsEnd, IsPut}}}, Spans.{Span, covers, outranks}, declared.{division.time_map.TimeMap.TimeMap, segment.OwnedSegment.OwnedSegment}}
+use Rattle.span_self_time.proofs.{Counts.covers-between, Owners.{taken-unclaimed, taken_to-before, taken_to-after, taken_to-on}, Ranks.{outranks-trans, outranks-either}, TimeMap.StretchOwners.{by_eq_z, IsSome-Some, IsSome-None, Belong-next, apart, owner-stays}, Times.IsReplaced-claimed}
 
 -- who has no claim on an owner has none on those who rank above
 pub claims-below : (s o : Span ℕ) (x : Option (Span ℕ)) → o.at ≢ s.at → claims s (Some o) ≡ false → claims o x ≡ false → claims s x ≡ false
@@ -19,40 +13,6 @@ claims-below s o (Some x) differs below none =
       | inl higher ↦ true≢false (sym (outranks-trans o s x higher above) ∙ none)
       | inr lower ↦ true≢false (sym lower ∙ below)
     ])
-
--- to go on later where nothing is taken is to stay
-pub taken_to-on : (s : Span ℕ) (t n : ℤ) (owners : Owners) → t ≤ℤ n → ((u : ℤ) → t ≤ℤ u → u <ℤ n → taken s owners u ≡ owners u) → taken_to s t owners ≡ taken_to s n owners
-taken_to-on s t n owners on none = λ i u. each u i
-  where
-    each : (u : ℤ) → taken_to s t owners u ≡ taken_to s n owners u
-    each u =
-        by_lt_z u t (λ h. taken_to-before s t owners u h ∙ sym (taken_to-before s n owners u (omega (arith, ints))))
-        (λ h. taken_to-after s t owners u h ∙ by_lt_z u n (λ k. sym (none u h k) ∙ sym (taken_to-before s n owners u k)) (λ k. sym (taken_to-after s n owners u k)))
-
--- before the span starts nothing is taken
-pub taken_to-start : (s : Span ℕ) (owners : Owners) → owners ≡ taken_to s s.start owners
-taken_to-start s owners = λ i u. each u i
-  where
-    each : (u : ℤ) → owners u ≡ taken_to s s.start owners u
-    each u =
-        by_lt_z u s.start (λ h. sym (taken-before s owners u h) ∙ sym (taken_to-before s s.start owners u h))
-        (λ h. sym (taken_to-after s s.start owners u h))
-
-pub taken_to-until : (s : Span ℕ) (owners : Owners) → taken_to s s.until owners ≡ taken s owners
-taken_to-until s owners = λ i u. each u i
-  where
-    each : (u : ℤ) → taken_to s s.until owners u ≡ taken s owners u
-    each u =
-        by_lt_z u s.until (λ h. taken_to-before s s.until owners u h)
-        (λ h. taken_to-after s s.until owners u h ∙ sym (taken-after s owners u h))
-
--- an empty span takes nothing
-pub taken-empty : (s : Span ℕ) (owners : Owners) → s.until ≤ℤ s.start → owners ≡ taken s owners
-taken-empty s owners empty = λ i u. each u i
-  where
-    each : (u : ℤ) → owners u ≡ taken s owners u
-    each u =
-        by_lt_z u s.start (λ h. sym (taken-before s owners u h)) (λ h. sym (taken-after s owners u (omega (arith, ints))))
 
 -- all that an owner covers is out of reach of a span that has no claim on him
 pub claims-covered : (s o : Span ℕ) (t u : ℤ) (owners : Owners) → IsEntrant s owners → owners t ≡ Some o → claims s (Some o) ≡ false → t ≤ℤ u → u <ℤ o.until → claims s (owners u) ≡ false
@@ -78,26 +38,14 @@ IsTaking-over s t n time_map owners is later none =
       whole = subst (λ (x : Owners). (u : ℤ) (r : Span ℕ) → IsEnd (at time_map.stretches) u r → u ≢ s.start → u ≢ s.until → x u ≢ Some r) same is.whole;
       until = is.until;
       edge = inr (none (n -ℤ pos 1) (omega (arith, ints)) (omega (arith, ints)));
-      times = subst (λ (x : Owners). AreTimes time_map.own time_map.busy x) same is.times;
+      times = subst (λ (x : Owners). AreTimes x time_map.times) same is.times;
       kept = is.kept;
       barred = is.barred;
     }
 
 -- a stretch starts where the span has a claim
 pub claimed-starts : (s : Span ℕ) (t : ℤ) (time_map : TimeMap) (owners : Owners) → IsTaking s t time_map owners → claims s (owners t) ≡ true → IsSome (at time_map.stretches t)
-claimed-starts s t time_map owners is claimed =
-    elim is.edge [
-      | inl some ↦ some
-      | inr none ↦ by_start (at time_map.stretches t) refl none
-    ]
-  where
-    by_start : (o : Option (Option OwnedSegment)) → at time_map.stretches t ≡ o → claims s (owners (t -ℤ pos 1)) ≡ false → IsSome o
-    by_start (Some v) h none = refl
-    by_start None h none =
-        let stays = owner-stays (taken_to s t owners) (at time_map.stretches) t is.divided h in
-        let same : owners (t -ℤ pos 1) ≡ owners t =
-        sym (taken-unclaimed s owners (t -ℤ pos 1) none) ∙ sym (taken_to-before s t owners (t -ℤ pos 1) (omega (arith, ints))) ∙ stays ∙ taken_to-after s t owners t (omega (arith, ints)) in
-        absurd (true≢false (sym claimed ∙ ap (claims s) (sym same) ∙ none))
+claimed-starts s t time_map owners is claimed = grind (arith, ints, common_steps, owner-stays, taken-unclaimed, taken_to-before, taken_to-after, true≢false)
 
 -- the span has a claim on the stretch from t to n
 pub record IsClaimed (s : Span ℕ) (t n : ℤ) (v : Option OwnedSegment) (time_map : TimeMap) : Type 0 where
@@ -115,17 +63,8 @@ module _ (s : Span ℕ) (t n : ℤ) (v : Option OwnedSegment) (time_map : TimeMa
   was = Belong-next (taken_to s t owners) (at time_map.stretches) t n v is.divided claim.here claim.next
 
   pub IsReplaced-taken : IsReplaced (taken_to s t owners) (taken_to s n owners) t n (option_map owner_of v) (Some s)
-  IsReplaced-taken = record {
-    first = omega (arith, ints, is.from, enter.in_time);
-    lasts = claim.next.later;
-    last = omega (arith, ints, ends, enter.in_time);
-    before = λ u h. taken_to-before s n owners u (omega (arith, ints, claim.next.later)) ∙ sym (taken_to-before s t owners u h);
-    after = λ u h. taken_to-after s n owners u h ∙ sym (taken_to-after s t owners u (omega (arith, ints, claim.next.later)));
-    was = was;
-    is = λ u from before.
-        taken_to-before s n owners u before
-        ∙ taken-within s owners u (option_map owner_of v) true (omega (arith, ints, is.from)) (omega (arith, ints, ends)) (sym (taken_to-after s t owners u from) ∙ was u from before) claim.claimed;
-  }
+  IsReplaced-taken =
+      IsReplaced-claimed s t n (option_map owner_of v) owners enter.in_time is.from claim.next.later ends (λ u from before. sym (taken_to-after s t owners u from) ∙ was u from before) claim.claimed
 
 -- a stretch changes hands
 module _ (old new : Owners) (m n : Starts) (t e : ℤ) (v : Option OwnedSegment) (p : OwnedSegment) (are : IsDivided old m) (here : m t ≡ Some v) (next : IsNext m t e) (put : IsPut m t (Some (Some p)) n) (start : p.segment.start ≡ t) (until : p.segment.until ≡ e) (change : IsReplaced old new t e (option_map owner_of v) (Some (owner_of p))) where
@@ -134,20 +73,10 @@ module _ (old new : Owners) (m n : Starts) (t e : ℤ) (v : Option OwnedSegment)
       by_eq_z q t (λ g. IsSome-Some (n q) _ (ap n g ∙ put.here)) (λ g. subst IsSome (sym (put.others q g)) some)
 
   by_segment : {P : Type 0} (j : ℤ) (r : OwnedSegment) → n j ≡ Some (Some r) → (j ≡ t → p ≡ r → P) → (j ≢ t → m j ≡ Some (Some r) → P) → P
-  by_segment j r is first other =
-      by_eq_z j t (λ h. first h (same_Some _ _ (same_Some _ _ (sym put.here ∙ ap n (sym h) ∙ is))))
-      (λ h. other h (sym (put.others j h) ∙ is))
+  by_segment j r is first other = grind (arith, ints, common_steps)
 
   held-given : IsHeld new n t p
-  held-given = record {
-    start = start;
-    belongs = λ u from before. change.is u from (omega (arith, ints, until));
-    next = subst (λ x. IsNext n t x) (sym until) (record {
-      some = keeps-given e next.some;
-      later = next.later;
-      none = λ q after before. put.others q (λ h. omega (arith, ints)) ∙ next.none q after before;
-    });
-  }
+  held-given = grind (arith, ints, common_steps)
 
   -- a segment of m that starts elsewhere lies before t or from e on
   elsewhere : (j u : ℤ) (r : OwnedSegment) → j ≢ t → m j ≡ Some (Some r) → j ≤ℤ u → u <ℤ r.segment.until → new u ≡ old u

@@ -1,13 +1,7 @@
 -- What spans that start together keep from others.
-use Rattle.std.proofs.{Common.{◌≡◌, ◌⊎◌, inl, inr, ℕ, Bool, true, false, ◌&&◌, cond, ℤ, ◌≤ℤ◌, ◌<ℤ◌, List, [], ◌∷◌, ◌++◌, Option, Some, None, refl, sym, ap, ◌∙◌, true≢false, arith, All}, lemmas.{Bool.false_from_ne_true, Int.ints, List.Elements.{All-head, All-tail}}}
+use Rattle.std.proofs.{Common.{◌≡◌, ℕ, Bool, true, false, ◌&&◌, cond, ℤ, ◌≤ℤ◌, List, [], ◌∷◌, ◌++◌, Option, Some, None, refl, sym, ◌∙◌, true≢false, arith, All}, lemmas.{Grind.common_steps, Bool.false_from_ne_true, Int.ints, List.Elements.{All-head, All-tail}}}
 use Rattle.span_self_time.specs.{Division.{Owners, claims, taken, TimeMap.Ties.{IsBarred, AreBarred}}, Spans.{Span, covers, outranks}, declared.division.time_map.ties.Ties.Ties}
-use Rattle.span_self_time.proofs.Ranks.{outranks-itself, outranks-trans, IsAbove, Decides-outranks}
-
--- an owner whom no span ranks below is out of reach of those below the span
-claims-above : (s x : Span ℕ) (o : Option (Span ℕ)) → outranks s x ≡ true → claims s o ≡ false → claims x o ≡ false
-claims-above s x None above none = absurd (true≢false none)
-claims-above s x (Some o) above none =
-    false_from_ne_true (outranks x o) (λ higher. true≢false (sym (outranks-trans s x o above higher) ∙ none))
+use Rattle.span_self_time.proofs.Ranks.{outranks-trans}
 
 -- what the span has taken is out of reach of those who could not take it before
 claims-taken : (s x : Span ℕ) (owners : Owners) (u : ℤ) → claims x (owners u) ≡ false → claims x (taken s owners u) ≡ false
@@ -31,19 +25,7 @@ AreBarred-taken s owners t are = λ k d within. IsBarred-taken s owners _ _ (are
 
 -- a span bars what it covers from those below it
 pub IsBarred-own : (s : Span ℕ) (owners : Owners) → IsBarred (taken s owners) s.start s.until
-IsBarred-own s owners = λ x u from before below.
-    claims-above s x (taken s owners u) ((Decides-outranks s x).1 (above x below)) (own u (covers s u) (grind (arith, ints, from, before)) refl)
-  where
-    above : (x : Span ℕ) → (x.start <ℤ s.start) ⊎ ((x.start ≡ s.start) × (s.until <ℤ x.until)) → IsAbove s x
-    above x (inl h) = inl h
-    above x (inr (h, k)) = inr (sym h, inl k)
-
-    own : (u : ℤ) (c : Bool) → covers s u ≡ true → covers s u ≡ c → claims s (taken s owners u) ≡ false
-    own u c here is = ap (λ b. claims s (cond (b && claims s (owners u)) (Some s) (owners u))) here ∙ by_claim (claims s (owners u)) refl
-      where
-        by_claim : (b : Bool) → claims s (owners u) ≡ b → claims s (cond b (Some s) (owners u)) ≡ false
-        by_claim true h = outranks-itself s
-        by_claim false h = h
+IsBarred-own s owners = grind (arith, ints, common_steps)
 
 pub All-last : {K : Type 0} (P : K → Type 0) (ks : List K) (k : K) → All P (ks ++ k ∷ []) → P k
 All-last P [] k all = All-head P k [] all

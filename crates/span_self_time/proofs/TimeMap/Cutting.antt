@@ -1,5 +1,5 @@
 -- How a stretch is cut in two.
-use Rattle.std.proofs.{Common.{◌≡◌, ◌≢◌, ◌⊎◌, inl, inr, ℕ, ℤ, ◌≤ℤ◌, ◌<ℤ◌, IsSome, Some, None, refl, sym, ap, ◌∙◌, subst, arith}, lemmas.{Int.{ints, by_lt_z}, Option.same_Some}}
+use Rattle.std.proofs.{Common.{◌≡◌, ◌≢◌, ◌⊎◌, inl, inr, ℕ, ℤ, ◌≤ℤ◌, ◌<ℤ◌, IsSome, Some, None, refl, sym, ap, ◌∙◌, subst, arith}, lemmas.{Grind.common_steps, Int.{ints, by_lt_z}, Option.same_Some}}
 use Rattle.span_self_time.specs.{least_time, Closed.greatest_until, Division.{Owners, owner_of, between, TimeMap.Stretches.{Starts, IsLast, IsHeld, IsOfSegment, IsDivided, IsEnd, IsPut}}, Spans.Span, declared.segment.OwnedSegment.OwnedSegment}
 use Rattle.span_self_time.proofs.TimeMap.StretchOwners.{by_eq_z, IsSome-Some, IsSome-None, until-last, last-is, IsHeld-same}
 
@@ -12,29 +12,18 @@ pub record IsCut (m n : Starts) (t : ℤ) (p : OwnedSegment) (k : ℤ) : Type 0 
   pub others : (q : ℤ) → q ≢ k → q ≢ t → n q ≡ m q
 
 pub IsCut-put : (m tailed n : Starts) (t k : ℤ) (p : OwnedSegment) → IsLast m t k (Some p) → k ≢ t → IsPut m t (Some (Some (between p t p.segment.until))) tailed → IsPut tailed k (Some (Some (between p p.segment.start t))) n → IsCut m n t p k
-IsCut-put m tailed n t k p last differs tail head = record {
-  last = last;
-  later = by_lt_z k t (λ h. h) (λ h. absurd (differs (omega (arith, ints, last.first))));
-  head = head.here;
-  tail = head.others t (λ e. differs (sym e)) ∙ tail.here;
-  others = λ q first second. head.others q first ∙ tail.others q second;
-}
+IsCut-put m tailed n t k p last differs tail head = grind (arith, ints, common_steps)
 
 module _ (owners : Owners) (m n : Starts) (t k : ℤ) (p : OwnedSegment) (are : IsDivided owners m) (cut : IsCut m n t p k) where
   none : m t ≡ None
   none = cut.last.none t cut.later (omega (arith, ints))
 
   pub keeps-cut : (q : ℤ) → IsSome (m q) → IsSome (n q)
-  keeps-cut q some =
-      by_eq_z q k (λ h. IsSome-Some (n q) _ (ap n h ∙ cut.head))
-      (λ h. by_eq_z q t (λ g. IsSome-Some (n q) _ (ap n g ∙ cut.tail)) (λ g. subst IsSome (sym (cut.others q h g)) some))
+  keeps-cut q some = grind (arith, ints, common_steps)
 
   -- a segment of n is one of the two, or one of m
   by_segment : {P : Type 0} (j : ℤ) (r : OwnedSegment) → n j ≡ Some (Some r) → (j ≡ k → between p p.segment.start t ≡ r → P) → (j ≡ t → between p t p.segment.until ≡ r → P) → (j ≢ k → j ≢ t → m j ≡ Some (Some r) → P) → P
-  by_segment j r is first second other =
-      by_eq_z j k (λ h. first h (same_Some _ _ (same_Some _ _ (sym cut.head ∙ ap n (sym h) ∙ is))))
-      (λ h. by_eq_z j t (λ g. second g (same_Some _ _ (same_Some _ _ (sym cut.tail ∙ ap n (sym g) ∙ is))))
-      (λ g. other h g (sym (cut.others j h g) ∙ is)))
+  by_segment j r is first second other = grind (arith, ints, common_steps)
 
   held-head : IsHeld owners n k (between p p.segment.start t)
   held-head =

@@ -1,5 +1,5 @@
 -- How two segments of one span that touch become one.
-use Rattle.std.proofs.{Common.{◌≡◌, ◌≢◌, ℕ, ℤ, pos, ◌-ℤ◌, ◌≤ℤ◌, ◌<ℤ◌, IsSome, Option, Some, None, sym, ap, ◌∙◌, subst, arith}, lemmas.{Int.{ints, by_lt_z}, Option.same_Some}}
+use Rattle.std.proofs.{Common.{◌≡◌, ◌≢◌, ℕ, ℤ, pos, ◌-ℤ◌, ◌≤ℤ◌, ◌<ℤ◌, IsSome, Option, Some, None, sym, ap, ◌∙◌, subst, arith}, lemmas.{Grind.common_steps, Int.{ints, by_lt_z}, Option.same_Some}}
 use Rattle.span_self_time.specs.{Division.{Owners, owner_of, between, TimeMap.Stretches.{Starts, IsLast, IsHeld, IsOfSegment, IsDivided, IsEnd, IsPut}}, Spans.Span, declared.segment.OwnedSegment.OwnedSegment}
 use Rattle.span_self_time.proofs.TimeMap.StretchOwners.{by_eq_z, IsSome-Some, IsSome-None, until-last, last-is, apart, IsHeld-same}
 
@@ -50,14 +50,7 @@ pub record IsJoined (m n : Starts) (t : ℤ) (p later : OwnedSegment) (k : ℤ) 
   pub others : (q : ℤ) → q ≢ k → q ≢ t → n q ≡ m q
 
 pub IsJoined-put : (m less n : Starts) (t k : ℤ) (p later : OwnedSegment) → IsLast m (t -ℤ pos 1) k (Some p) → m t ≡ Some (Some later) → owner_of p ≡ owner_of later → IsPut m t None less → IsPut less k (Some (Some (between p p.segment.start later.segment.until))) n → IsJoined m n t p later k
-IsJoined-put m less n t k p later last here same gone whole = record {
-  last = last;
-  here = here;
-  same = same;
-  whole = whole.here;
-  gone = whole.others t (λ e. omega (arith, ints, last.first)) ∙ gone.here;
-  others = λ q first second. whole.others q first ∙ gone.others q second;
-}
+IsJoined-put m less n t k p later last here same gone whole = grind (arith, ints, common_steps)
 
 pub keeps-joined : (m n : Starts) (t k : ℤ) (p later : OwnedSegment) → IsJoined m n t p later k → (q : ℤ) → q ≢ t → IsSome (m q) → IsSome (n q)
 keeps-joined m n t k p later join q differs some =
@@ -65,10 +58,7 @@ keeps-joined m n t k p later join q differs some =
 
 module _ (owners : Owners) (m n : Starts) (t k : ℤ) (p later : OwnedSegment) (are : IsDivided owners m) (join : IsJoined m n t p later k) where
   by_segment : {P : Type 0} (j : ℤ) (r : OwnedSegment) → n j ≡ Some (Some r) → (j ≡ k → between p p.segment.start later.segment.until ≡ r → P) → (j ≢ k → j ≢ t → m j ≡ Some (Some r) → P) → P
-  by_segment j r is first other =
-      by_eq_z j k (λ h. first h (same_Some _ _ (same_Some _ _ (sym join.whole ∙ ap n (sym h) ∙ is))))
-      (λ h. by_eq_z j t (λ g. absurd (IsSome-None (n j) (ap n g ∙ join.gone) (IsSome-Some (n j) _ is)))
-      (λ g. other h g (sym (join.others j h g) ∙ is)))
+  by_segment j r is first other = grind (arith, ints, common_steps)
 
   until : p.segment.until ≡ t
   until =

@@ -1,6 +1,6 @@
 -- The segments of a division in order.
 use Rattle.std.specs.{BTreeMap.{is_at, IsOrdered}, List.{AllByRecursion, Sorted.IsStrictlySortedBy}, Map.{lookup, keys_of, values_of}, Option.is_some, Ordering.{int_cmp, is_eq}, declared.cmp.Ordering.TheVariants.Less}
-use Rattle.std.proofs.{Common.{◌≡◌, true, ℤ, pos, ◌+ℤ◌, ◌≤ℤ◌, ◌<ℤ◌, IsSome, List, [], ◌∷◌, length, ◌≤◌, Option, Some, None, refl, sym, ap, ◌∙◌, arith}, lemmas.{Int.{ints, by_lt_z}, Map.Entries.{lookup_head, lookup_tail}, Option.same_Some}}
+use Rattle.std.proofs.{Common.{◌≡◌, true, ℤ, pos, ◌+ℤ◌, ◌≤ℤ◌, ◌<ℤ◌, IsSome, List, [], ◌∷◌, length, ◌≤◌, Option, Some, None, refl, sym, ap, ◌∙◌, arith}, lemmas.{Grind.common_steps, Int.{ints, by_lt_z}, Map.Entries.{lookup_head, lookup_tail}, Option.same_Some}}
 use Rattle.span_self_time.specs.{least_time, Closed.greatest_until, Division.{Owners, owner_of, AreFuture, AreOwnedSegments, TimeMap.Stretches.{Starts, at, IsDivided, AreWhole, present, segments_in}}, declared.{division.time_map.stretches.Stretches.Stretches, segment.OwnedSegment.OwnedSegment}}
 use Rattle.span_self_time.proofs.TimeMap.{Searching.differs, StretchOwners.{by_eq_z, IsSome-Some, IsSome-None, owner-none, apart}}
 
@@ -32,9 +32,7 @@ StartsFrom-sorted e (x ∷ es) above = let h : int_cmp e.0 x.0 ≡ Less = above.
 none-below : (q : ℤ) (e : ℤ × Option OwnedSegment) (es : Entries) → q <ℤ e.0 → StartsFrom (e.0 +ℤ pos 1) es → IsStrictlySortedBy int_cmp (keys_of es) → found (e ∷ es) q ≡ None
 unfolding IsStrictlySortedBy
 none-below q e [] h starts sorted = lookup_tail (is_at (int_cmp q)) e [] (differs q e.0 (λ same. omega (arith, ints)))
-none-below q e (x ∷ es) h starts sorted =
-    lookup_tail (is_at (int_cmp q)) e (x ∷ es) (differs q e.0 (λ same. omega (arith, ints)))
-    ∙ none-below q x es (omega (arith, ints, starts)) (StartsFrom-sorted x es sorted.0) sorted.1
+none-below q e (x ∷ es) h starts sorted = grind (arith, ints, common_steps, lookup_tail, StartsFrom-sorted, none-below q x es (omega (arith, ints, starts)) (StartsFrom-sorted x es sorted.0) sorted.1)
 
 is_eq-int_cmp : (k : ℤ) → is_eq (int_cmp k k) ≡ true
 is_eq-int_cmp k = grind (arith, ints)

@@ -1,12 +1,10 @@
 -- What the stretches of a division say of its owners.
 use Rattle.std.specs.Option.{option_map, is_some}
-use Rattle.std.proofs.{Common.{◌≡◌, ◌≢◌, ℕ, ℤ, pos, ◌-ℤ◌, ◌≤ℤ◌, ◌<ℤ◌, IsSome, Option, Some, None, true≢false, refl, sym, ap, ◌∙◌, subst, arith}, lemmas.{Int.{ints, by_lt_z}, Option.same_Some}}
+use Rattle.std.proofs.{Common.{◌≡◌, ◌≢◌, ℕ, ℤ, pos, ◌-ℤ◌, ◌≤ℤ◌, ◌<ℤ◌, IsSome, Option, Some, None, true≢false, refl, sym, ap, ◌∙◌, subst, arith}, lemmas.{Grind.common_steps, Int.{ints, by_lt_z}, Option.same_Some}}
 use Rattle.span_self_time.specs.{Division.{Owners, owner_of, Belong, TimeMap.Stretches.{Starts, IsLast, IsNext, IsHeld, IsOfSegment, IsDivided}}, Spans.Span, declared.segment.OwnedSegment.OwnedSegment}
 
 pub by_eq_z : {P : Type 0} (a b : ℤ) → (a ≡ b → P) → (a ≢ b → P) → P
-by_eq_z a b same differs =
-    by_lt_z a b (λ h. differs (λ e. omega (arith, ints)))
-    (λ h. by_lt_z b a (λ k. differs (λ e. omega (arith, ints))) (λ k. same (omega (arith, ints))))
+by_eq_z a b same differs = grind (arith, ints, common_steps)
 
 pub IsSome-Some : {A : Type 0} (o : Option A) (x : A) → o ≡ Some x → IsSome o
 IsSome-Some o x is = ap is_some is
@@ -36,11 +34,7 @@ until-last owners m t k p are last =
 
 -- what is of no segment has no owner
 pub owner-none : (owners : Owners) (m : Starts) (u : ℤ) → IsDivided owners m → (IsOfSegment m u → ⊥) → owners u ≡ None
-owner-none owners m u are none = by_owner (owners u) refl
-  where
-    by_owner : (o : Option (Span ℕ)) → owners u ≡ o → o ≡ None
-    by_owner None is = refl
-    by_owner (Some o) is = absurd (none (are.owned u o is))
+owner-none owners m u are none = grind (arith, ints, common_steps)
 
 -- the owner of t is that of the last stretch that starts no later
 pub owner-last : (owners : Owners) (m : Starts) (t k : ℤ) (v : Option OwnedSegment) → IsDivided owners m → IsLast m t k v → owners t ≡ option_map owner_of v
@@ -92,8 +86,4 @@ owner-stays owners m t are none = by_owner (owners t) refl
 
 -- a segment stays where nothing new starts in it, and its end stays a start
 pub IsHeld-same : (owners : Owners) (m n : Starts) (k : ℤ) (p : OwnedSegment) → IsHeld owners m k p → (IsSome (m p.segment.until) → IsSome (n p.segment.until)) → ((q : ℤ) → k <ℤ q → q <ℤ p.segment.until → n q ≡ None) → IsHeld owners n k p
-IsHeld-same owners m n k p held keeps none = record {
-  start = held.start;
-  belongs = held.belongs;
-  next = record { some = keeps held.next.some; later = held.next.later; none = none };
-}
+IsHeld-same owners m n k p held keeps none = grind (arith, ints, common_steps)

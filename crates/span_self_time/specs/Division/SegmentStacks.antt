@@ -1,7 +1,7 @@
 -- What holds of stacks of segments, and of the cursor between them, while a new span takes what is its own.
-use Rattle.std.specs.Prelude.{◌≡◌, ◌≢◌, ℕ, ◌+◌, ◌*◌, ◌≤◌, ◌<◌, nat_eq, length, ◌++◌, vec_len, vec_capacity, IsSome, if◌then◌else◌, Bool, false, ℤ, pos, ◌-ℤ◌, ◌≤ℤ◌, ◌<ℤ◌, int_le, int_lt, List, [], ◌∷◌, reverse, None, Some, sum_by}
+use Rattle.std.specs.Prelude.{◌≡◌, ◌≢◌, ℕ, ◌+◌, ◌*◌, ◌≤◌, ◌<◌, nat_eq, length, ◌++◌, vec_len, vec_capacity, IsSome, if◌then◌else◌, Bool, false, ℤ, pos, ◌-ℤ◌, ◌≤ℤ◌, ◌<ℤ◌, int_le, int_lt, List, [], ◌∷◌, reverse, None, Some}
 use Rattle.indexmap.specs.IndexMap.{get}
-use Rattle.span_self_time.specs.{distance, least_time, Closed.IsInTime, Division.{Owners, SelfTimes, own_in, taken, owner_of, Belong, AreFuture, AreOwnedSegments, IsNew, between}, Spans.Span, declared.{division.segment_stacks.SegmentStacks.SegmentStacks, segment.OwnedSegment.OwnedSegment}}
+use Rattle.span_self_time.specs.{distance, least_time, Closed.IsInTime, Division.{Owners, taken, taken_to, owner_of, Belong, AreFuture, AreOwnedSegments, IsNew, between, OwnTimes.AreTimes}, Spans.Span, declared.{division.segment_stacks.SegmentStacks.SegmentStacks, segment.OwnedSegment.OwnedSegment}}
 
 -- the segments, the last first, are the time before t: each is as long as can be to its start
 abbrev pub ArePast : Owners → ℤ → List OwnedSegment → Type 0
@@ -11,20 +11,9 @@ ArePast owners t (p ∷ ps) =
     × (p.segment.start <ℤ p.segment.until) × Belong owners p.segment.start p.segment.until (Some (owner_of p))
     × (owners (p.segment.start -ℤ pos 1) ≢ Some (owner_of p)) × ArePast owners p.segment.start ps
 
--- how long the segments of a name are together
+-- the ticks of a segment
 abbrev pub segment_length : OwnedSegment → ℕ
 segment_length p = distance p.segment.start p.segment.until
-
-abbrev pub named_length : ℕ → List OwnedSegment → ℕ
-named_length name segments = sum_by (λ p. if nat_eq p.segment.name name then segment_length p else 0) segments
-
-abbrev pub whole_length : List OwnedSegment → ℕ
-whole_length segments = sum_by (λ p. segment_length p) segments
-
--- the running times are those of the segments
-pub record AreSums (own : SelfTimes) (busy : ℕ) (segments : List OwnedSegment) : Type 0 where
-  pub of_names : (name : ℕ) → own_in own name ≡ named_length name segments
-  pub of_all : busy ≡ whole_length segments
 
 -- only this span has its position
 abbrev pub IsOnly : Span ℕ → Owners → Type 0
@@ -60,13 +49,12 @@ starts_before t (p ∷ ps) = int_lt p.segment.start t
 -- the segments of the stacks are those of these owners, and its times are those of the segments
 pub record AreSegmentStacks (owners : Owners) (t : SegmentStacks) : Type 0 where
   pub segments : AreOwnedSegments owners (segments_of t.past.items t.future.items)
-  pub sums : AreSums t.own t.busy (segments_of t.past.items t.future.items)
+  pub times : AreTimes owners t.times
 
 -- the same segments and times, if perhaps with another cursor
 pub record IsMoved (old new : SegmentStacks) : Type 0 where
   pub segments : segments_of new.past.items new.future.items ≡ segments_of old.past.items old.future.items
-  pub own : new.own ≡ old.own
-  pub busy : new.busy ≡ old.busy
+  pub times : new.times ≡ old.times
 
 -- the cursor stands right before the span, or before a segment that the span starts in
 pub record IsAtStart (s : Span ℕ) (past future : List OwnedSegment) (owners : Owners) : Type 0 where
@@ -103,44 +91,36 @@ pub record IsNextSegment (s : Span ℕ) (from : ℤ) (p : OwnedSegment) (past fu
 -- the cursor stands where a new span starts, its name has a running time, and there is room for all that it may take
 pub record IsEntering (s : Span ℕ) (t : SegmentStacks) (owners : Owners) : Type 0 where
   pub start : IsAtStart s t.past.items t.future.items owners
-  pub sums : AreSums t.own t.busy (segments_of t.past.items t.future.items)
-  pub kept : IsSome (get nat_eq t.own s.name)
+  pub times : AreTimes owners t.times
+  pub kept : IsSome (get nat_eq t.times.names s.name)
   pub room : vec_len t.past + 2 * vec_len t.future + 2 ≤ vec_capacity t.past
 
 -- a new span has taken what is its own before `time`, and there is room for the rest
 pub record IsTaking (s : Span ℕ) (time : ℤ) (t : SegmentStacks) (owners : Owners) : Type 0 where
   pub taken : IsTakenTo s time t.past.items t.future.items owners
-  pub sums : AreSums t.own t.busy (segments_of t.past.items t.future.items)
-  pub kept : IsSome (get nat_eq t.own s.name)
+  pub times : AreTimes (taken_to s time owners) t.times
+  pub kept : IsSome (get nat_eq t.times.names s.name)
   pub room : time <ℤ s.until → vec_len t.past + 2 * vec_len t.future + 1 ≤ vec_capacity t.past
 
 -- the same, but that the next segment is taken out
 pub record IsAhead (s : Span ℕ) (time : ℤ) (p : OwnedSegment) (t : SegmentStacks) (owners : Owners) : Type 0 where
   pub taken : IsTakenTo s time t.past.items (t.future.items ++ p ∷ []) owners
-  pub sums : AreSums t.own t.busy (p ∷ segments_of t.past.items t.future.items)
-  pub kept : IsSome (get nat_eq t.own s.name)
+  pub times : AreTimes (taken_to s time owners) t.times
+  pub kept : IsSome (get nat_eq t.times.names s.name)
   pub room : vec_len t.past + 2 * vec_len t.future + 3 ≤ vec_capacity t.past
   pub room_behind : vec_len t.future < vec_capacity t.future
 
 -- of the segment that is taken out, the span may take what lies from `from` on
 pub record IsPassing (s : Span ℕ) (from : ℤ) (p : OwnedSegment) (t : SegmentStacks) (owners : Owners) : Type 0 where
   pub next : IsNextSegment s from p t.past.items t.future.items owners
-  pub sums : AreSums t.own t.busy (p ∷ segments_of t.past.items t.future.items)
-  pub kept : IsSome (get nat_eq t.own s.name)
+  pub times : AreTimes (taken_to s from owners) t.times
+  pub kept : IsSome (get nat_eq t.times.names s.name)
   pub room : vec_len t.past + 2 * vec_len t.future + 2 + length (piece p p.segment.start from) ≤ vec_capacity t.past
   pub room_behind : vec_len t.future < vec_capacity t.future
 
--- the past without the span's segment that reaches from `start` to `from`; where it has none, `start` is `from`, and the past is the same
-pub record IsTakenBack (s : Span ℕ) (start from : ℤ) (old new : List OwnedSegment) (owners : Owners) : Type 0 where
+-- the past without the span's segment that reaches from `start` to `from`; where it has none, `start` is `from`
+pub record IsTakenBack (s : Span ℕ) (start from : ℤ) (past : List OwnedSegment) (owners : Owners) : Type 0 where
   pub first : start ≤ℤ from
-  pub before : ArePast owners start (reverse new)
+  pub before : ArePast owners start (reverse past)
   pub belongs : Belong owners start from (Some s)
   pub change : owners (start -ℤ pos 1) ≢ Some s
-  pub of_names : (name : ℕ) → named_length name old ≡ named_length name new + (if nat_eq s.name name then distance start from else 0)
-  pub of_all : whole_length old ≡ whole_length new + distance start from
-
--- the past with what the span has from `from` to before `until`
-pub record IsGained (s : Span ℕ) (from until : ℤ) (old new : List OwnedSegment) (owners : Owners) : Type 0 where
-  pub before : ArePast owners until (reverse new)
-  pub of_names : (name : ℕ) → named_length name new ≡ named_length name old + (if nat_eq s.name name then distance from until else 0)
-  pub of_all : whole_length new ≡ whole_length old + distance from until

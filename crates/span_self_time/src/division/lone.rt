@@ -1,6 +1,6 @@
 //! The time of at most one span, which has all that it covers.
-ghost use Rattle.std.specs.Prelude.{◌≡◌, map, length, slice_get, option_copied, IfOk, OnOk};
-ghost use Rattle.span_self_time.specs.Division.{Owners, IsNew, AreSettled, CanAdd, owner_of, taken, Lengths.{CanGain, Gains}, Lone.{IsLone, segments_of_lone}, SegmentStacks.{named_length, whole_length}, Ways.IsWay};
+ghost use Rattle.std.specs.Prelude.{◌≡◌, ℕ, nat_eq, List, map, length, slice_get, option_copied, IfOk, OnOk};
+ghost use Rattle.span_self_time.specs.{Closed.AreClosed, Division.{Owners, IsNew, AreSettled, CanAdd, owner_of, owners_of, taken, Lengths.{CanGain, Gains}, Lone.{IsLone, segments_of_lone}, Ways.IsWay}, Spans.{Span, self_of, busy_time}};
 
 use super::Way;
 use super::lengths::Lengths;
@@ -9,7 +9,8 @@ use crate::segment::{OwnedSegment, Segment};
 use std::alloc::{AllocError, Global};
 
 pub(crate) fn self_of(lone: &Option<OwnedSegment>, name: u32) -> u64
-    ensures { result ≡ named_length name (segments_of_lone lone.now) }
+    ensures { (spans : List (Span ℕ)) → AreClosed spans → IsLone (owners_of spans) lone.now
+        → result ≡ self_of nat_eq name spans }
 {
     match lone {
         Some(owned) if owned.segment.name == name => owned.length(),
@@ -18,7 +19,8 @@ pub(crate) fn self_of(lone: &Option<OwnedSegment>, name: u32) -> u64
 }
 
 pub(crate) fn busy(lone: &Option<OwnedSegment>) -> u64
-    ensures { result ≡ whole_length (segments_of_lone lone.now) }
+    ensures { (spans : List (Span ℕ)) → AreClosed spans → IsLone (owners_of spans) lone.now
+        → result ≡ busy_time spans }
 {
     match lone {
         Some(owned) => owned.length(),

@@ -1,13 +1,10 @@
 //! The time of a thread as two stacks of its segments, those before a cursor and those behind it.
-ghost use Rattle.std.specs.Prelude.{true, false, map, option_copied, ◌≡◌, ◌≤◌, ◌<◌, ◌+◌, ◌*◌, ◌^◌, ◌==◌, ◌≤ℤ◌, ◌<ℤ◌, ℕ, [], ◌++◌, nat_eq, reverse, length, Some, slice_get, vec_len, vec_capacity, if◌then◌else◌, IsSome, OnOk, OnErr};
-ghost use Rattle.indexmap.specs.IndexMap.{get};
-ghost use Rattle.span_self_time.specs.{distance, Division.{Owners, owner_of, taken, Belong, own_in, ForSome, CanAdd, Adds, KeepsOwners, Lengths.{CanGain, Gains}, SegmentStacks.{ArePast, IsOnly, segments_of, piece, ends_by, lasts_beyond, starts_before, AreSegmentStacks, IsMoved, IsEntering, IsTaking, IsAhead, IsPassing, IsTakenBack, IsGained}}, Spans.outranks};
+ghost use Rattle.std.specs.Prelude.{true, false, map, option_copied, ◌≡◌, ◌≤◌, ◌<◌, ◌+◌, ◌≤ℤ◌, ◌<ℤ◌, ◌++◌, reverse, length, Some, slice_get, vec_len, vec_capacity, OnOk, OnErr};
+ghost use Rattle.span_self_time.specs.{Division.{Owners, owner_of, taken, Belong, ForSome, CanAdd, Adds, KeepsOwners, Lengths.{CanGain, Gains}, SegmentStacks.{ArePast, IsOnly, segments_of, piece, ends_by, lasts_beyond, starts_before, AreSegmentStacks, IsMoved, IsEntering, IsTaking, IsAhead, IsPassing, IsTakenBack}}, Spans.outranks};
 
 use super::lengths::Lengths;
-use super::own_times::{gain_own, keep_name, lose_own, own_in};
+use super::own_times::OwnTimes;
 use crate::segment::{OwnedSegment, Segment};
-use indexmap::IndexMap;
-use span_event::distance;
 use std::alloc::{AllocError, Global};
 
 // Up to so many segments the cursor passes without being asked how many.
@@ -20,8 +17,7 @@ pub(crate) struct SegmentStacks {
     past: Vec<OwnedSegment>,
     // The last comes first.
     future: Vec<OwnedSegment>,
-    own: IndexMap<u32, u64>,
-    busy: u64,
+    pub(super) times: OwnTimes,
 }
 
 impl SegmentStacks {
@@ -31,21 +27,8 @@ impl SegmentStacks {
         SegmentStacks {
             past: Vec::new(alloc),
             future: Vec::new(alloc),
-            own: IndexMap::new(alloc),
-            busy: 0,
+            times: OwnTimes::new(alloc),
         }
-    }
-
-    pub(crate) fn self_of(&self, name: u32) -> u64
-        ensures { result ≡ own_in self.now.own name }
-    {
-        own_in(&self.own, name)
-    }
-
-    pub(crate) fn busy(&self) -> u64
-        ensures { result ≡ self.now.busy }
-    {
-        self.busy
     }
 
     pub(crate) fn segment_count(&self) -> u64
@@ -91,12 +74,11 @@ impl SegmentStacks {
         if span.span_start == span.span_until {
             return Ok(());
         }
-        self.own.reserve(1)?;
         self.rewind(span.span_start)?;
         self.advance(span.span_start)?;
         self.past
             .reserve(self.future.len().saturating_add(1).saturating_mul(2))?;
-        keep_name(&mut self.own, span.segment.name);
+        self.times.keep(span.segment.name)?;
         let entered = self.enter(span);
         let time = self.go_through(span, entered);
         self.finish(span, time);
@@ -105,8 +87,8 @@ impl SegmentStacks {
 
     /// About how many segments the cursor has to pass for this span, where these are many: half of them, or more.
     pub(crate) fn moves_for(&self, span: &OwnedSegment) -> u64 {
-        let back = ends_beyond(&self.past, span.span_start);
-        let on = starts_within(&self.future, span.span_until);
+        let back = passed(&self.past, |owned| owned.segment.until > span.span_start);
+        let on = passed(&self.future, |owned| owned.segment.start < span.span_until);
         back.saturating_add(on)
     }
 
@@ -195,8 +177,8 @@ impl SegmentStacks {
             → IsPassing (owner_of span.now) owned.now.segment.start owned.now self.new owners }
     {
         if time < owned.segment.start {
-            self.busy += distance(time, owned.segment.start);
-            self.gain(span, time, owned.segment.start);
+            self.times.charge(span, &None, time, owned.segment.start);
+            push_own(&mut self.past, span, time, owned.segment.start);
         }
     }
 
@@ -208,8 +190,8 @@ impl SegmentStacks {
             → AreSegmentStacks (taken (owner_of span.now) owners) self.new }
     {
         if time < span.span_until {
-            self.busy += distance(time, span.span_until);
-            self.gain(span, time, span.span_until);
+            self.times.charge(span, &None, time, span.span_until);
+            push_own(&mut self.past, span, time, span.span_until);
         }
     }
 
@@ -239,42 +221,33 @@ impl SegmentStacks {
     {
         push_between(&mut self.past, owned, owned.segment.start, from);
         let until = owned.segment.until.min(span.span_until);
-        lose_own(&mut self.own, owned.segment.name, distance(from, until));
-        self.gain(span, from, until);
+        self.times.charge(span, &Some(*owned), from, until);
+        push_own(&mut self.past, span, from, until);
         push_between(&mut self.future, owned, until, owned.segment.until);
         until
     }
+}
 
-    fn gain(&mut self, span: &OwnedSegment, from: i64, until: i64)
-        requires lasts { from <ℤ until }
-        requires room { vec_len self.old.past < vec_capacity self.old.past }
-        requires kept { IsSome (get nat_eq self.old.own span.now.segment.name) }
-        requires small { own_in self.old.own span.now.segment.name + distance from until < 2 ^ 64 }
-        ensures past { (owners : Owners) → IsOnly (owner_of span.now) owners
-            → Belong owners from until (Some (owner_of span.now))
-            → ArePast owners from (reverse self.old.past.items)
-            → IsGained (owner_of span.now) from until self.old.past.items
-            self.new.past.items owners }
-        ensures own { (other : ℕ) → own_in self.new.own other ≡ own_in self.old.own other
-            + (if span.now.segment.name == other then distance from until else 0) }
-        ensures kept { (other : ℕ) → IsSome (get nat_eq self.old.own other)
-            → IsSome (get nat_eq self.new.own other) }
-        ensures room { vec_len self.new.past ≤ vec_len self.old.past + 1 }
-        ensures capacity { vec_capacity self.new.past ≡ vec_capacity self.old.past }
-        ensures future { self.new.future ≡ self.old.future }
-        ensures busy { self.new.busy ≡ self.old.busy }
-    {
-        gain_own(&mut self.own, span.segment.name, distance(from, until));
-        let start = take_back(&mut self.past, span, from);
-        self.past.push_reserved(span.between(start, until));
-    }
+// Appends what the span has from `from` to before `until`, as one segment with what it has right before.
+fn push_own(past: &mut Vec<OwnedSegment>, span: &OwnedSegment, from: i64, until: i64)
+    requires lasts { from <ℤ until }
+    requires room { vec_len past.old < vec_capacity past.old }
+    ensures past { (owners : Owners) → IsOnly (owner_of span.now) owners
+        → Belong owners from until (Some (owner_of span.now))
+        → ArePast owners from (reverse past.old.items)
+        → ArePast owners until (reverse past.new.items) }
+    ensures len { vec_len past.new ≤ vec_len past.old + 1 }
+    ensures capacity { vec_capacity past.new ≡ vec_capacity past.old }
+{
+    let start = take_back(past, span, from);
+    past.push_reserved(span.between(start, until));
 }
 
 // Takes the last segment back where it is of the span and ends at `from`. Returns from when on the span's time reaches to `from`.
 fn take_back(past: &mut Vec<OwnedSegment>, span: &OwnedSegment, from: i64) -> i64
     ensures past { (owners : Owners) → IsOnly (owner_of span.now) owners
         → ArePast owners from (reverse past.old.items)
-        → IsTakenBack (owner_of span.now) result from past.old.items past.new.items owners }
+        → IsTakenBack (owner_of span.now) result from past.new.items owners }
     ensures len { vec_len past.new ≤ vec_len past.old }
     ensures capacity { vec_capacity past.new ≡ vec_capacity past.old }
 {
@@ -328,19 +301,12 @@ fn starts_before(segments: &Vec<OwnedSegment>, time: i64) -> bool
     }
 }
 
-// At least half as many segments as end later than `time`, or 0 where these are few.
-fn ends_beyond(segments: &Vec<OwnedSegment>, time: i64) -> u64 {
+// At least half as many segments as are passed, from the last on, or 0 where these are few.
+fn passed<P: Fn(&OwnedSegment) -> bool>(segments: &Vec<OwnedSegment>, is_passed: P) -> u64
+    requires { P.IsAlwaysCallable is_passed }
+{
     let mut reach = FEW;
-    while reach < segments.len() && segments[segments.len() - reach].segment.until > time {
-        reach *= 2;
-    }
-    (reach - FEW) as u64
-}
-
-// At least half as many segments as start sooner than `time`, or 0 where these are few.
-fn starts_within(segments: &Vec<OwnedSegment>, time: i64) -> u64 {
-    let mut reach = FEW;
-    while reach < segments.len() && segments[segments.len() - reach].segment.start < time {
+    while reach < segments.len() && is_passed(&segments[segments.len() - reach]) {
         reach *= 2;
     }
     (reach - FEW) as u64

@@ -1,16 +1,12 @@
 //! The time of a thread as an ordered map of stretches, among which each span finds its place.
-ghost use Rattle.std.specs.{BTreeMap.IsOrdered, Option.{is_some, option_map}, Ordering.int_cmp, Prelude.{true, false, ◌≡◌, ◌≤◌, ◌<◌, ◌+◌, ◌^◌, ◌==◌, ℕ, ℤ, ◌≤ℤ◌, ◌<ℤ◌, nat_eq, if◌then◌else◌, Some, None, IsSome, IfSome, OnOk, OnErr, List, length, map, slice_get, option_copied}};
-ghost use Rattle.indexmap.specs.IndexMap.{get};
-ghost use Rattle.span_self_time.specs.{Closed.AreClosed, Division.{Owners, owner_of, claims, owners_of, own_in, ForSome, HasOwnedSegments, CanAdd, Adds, KeepsOwners, Lengths.{CanGain, Gains}, TimeMap.{has_name, IsTimeMap, IsEntrant, IsTaking, Stretches.{at, segments_in}, Ties.{IsBarred, AreBarred}}}, Spans.{Span, self_of, busy_time}};
+ghost use Rattle.std.specs.{Option.option_map, Prelude.{true, false, ◌≡◌, ℤ, ◌≤ℤ◌, ◌<ℤ◌, Some, None, OnOk, OnErr}};
+ghost use Rattle.span_self_time.specs.{Division.{Owners, owner_of, claims, ForSome, CanAdd, Adds, KeepsOwners, TimeMap.{IsTimeMap, IsEntrant, IsTaking, Stretches.at, Ties.{IsBarred, AreBarred}}}};
 
 mod stretches;
 mod ties;
 
-use super::lengths::Lengths;
-use super::own_times::{gain_own, keep_name, lose_own, own_in};
-use crate::segment::{OwnedSegment, Segment};
-use indexmap::IndexMap;
-use span_event::distance;
+use super::own_times::OwnTimes;
+use crate::segment::OwnedSegment;
 use std::alloc::{AllocError, Global};
 use stretches::Stretches;
 use ties::Ties;
@@ -18,10 +14,9 @@ use ties::Ties;
 /// The stretches of time, and the running times of the names.
 #[derive(Clone, Drop)]
 pub(crate) struct TimeMap {
-    stretches: Stretches,
+    pub(super) stretches: Stretches,
     ties: Ties,
-    own: IndexMap<u32, u64>,
-    busy: u64,
+    pub(super) times: OwnTimes,
 }
 
 impl TimeMap {
@@ -31,49 +26,8 @@ impl TimeMap {
         TimeMap {
             stretches: Stretches::new(alloc),
             ties: Ties::new(alloc),
-            own: IndexMap::new(alloc),
-            busy: 0,
+            times: OwnTimes::new(alloc),
         }
-    }
-
-    pub(crate) fn self_of(&self, name: u32) -> u64
-        ensures { (spans : List (Span ℕ)) → AreClosed spans → IsTimeMap (owners_of spans) self.now
-            → result ≡ self_of nat_eq name spans }
-    {
-        own_in(&self.own, name)
-    }
-
-    pub(crate) fn busy(&self) -> u64
-        ensures { (spans : List (Span ℕ)) → AreClosed spans → IsTimeMap (owners_of spans) self.now
-            → result ≡ busy_time spans }
-    {
-        self.busy
-    }
-
-    pub(crate) fn segment_count(&self) -> u64
-        ensures { (owners : Owners) → IsTimeMap owners self.now
-            → HasOwnedSegments owners (λ segments. result ≡ length segments) }
-    {
-        self.stretches.segment_count()
-    }
-
-    pub(crate) fn segment(&self, i: u64) -> Option<&Segment>
-        ensures { (owners : Owners) → IsTimeMap owners self.now
-            → HasOwnedSegments owners (λ segments.
-            option_copied result ≡ slice_get (map (λ owned. owned.segment) segments) i) }
-    {
-        self.stretches.segment(i)
-    }
-
-    /// The span of each segment gains the segment's length.
-    pub(crate) fn add_lengths(&self, times: &mut Lengths) -> Result<(), AllocError>
-        requires { IsOrdered int_cmp self.now.stretches.map
-            → CanGain times.old (segments_in self.now.stretches) }
-        ensures { (owners : Owners) → IsTimeMap owners self.now
-            → HasOwnedSegments owners (λ segments.
-            OnOk result (Gains times.old segments times.new)) }
-    {
-        self.stretches.add_lengths(times)
     }
 
     /// The span takes the ticks that it covers from no one and from the spans that it outranks. Where memory is refused,
@@ -87,9 +41,8 @@ impl TimeMap {
             return Ok(());
         }
         let tied = self.starts_with_another(span);
-        self.own.reserve(1)?;
+        self.times.keep(span.segment.name)?;
         self.stretches.split_both(span.span_start, span.span_until)?;
-        keep_name(&mut self.own, span.segment.name);
         self.go_through(span);
         self.stretches.join(span.span_until);
         self.stretches.join(span.span_start);
@@ -181,34 +134,9 @@ impl TimeMap {
         ensures on { time <ℤ result }
     {
         let until = self.stretches.end_of(time, &held);
-        self.charge(span.segment.name, &held, distance(time, until));
+        self.times.charge(span, &held, time, until);
         self.stretches.write(time, span.between(time, until));
         self.stretches.join(time);
         until
-    }
-
-    // Who held the time loses it, and then the name gains it.
-    fn charge(&mut self, name: u32, held: &Option<OwnedSegment>, length: u64)
-        requires some { 0 < length }
-        requires kept { IsSome (get nat_eq self.old.own name) }
-        requires small { own_in self.old.own name + length
-            < 2 ^ 64 + (if has_name name (option_map owner_of held.now) then length else 0) }
-        requires busy { self.old.busy + length < 2 ^ 64 + (if is_some held.now then length else 0) }
-        requires held { IfSome held.now (λ owned. length ≤ own_in self.old.own owned.segment.name) }
-        ensures own { (other : ℕ) → own_in self.new.own other
-            + (if has_name other (option_map owner_of held.now) then length else 0)
-            ≡ own_in self.old.own other + (if name == other then length else 0) }
-        ensures busy { self.new.busy + (if is_some held.now then length else 0)
-            ≡ self.old.busy + length }
-        ensures kept { (other : ℕ) → IsSome (get nat_eq self.old.own other)
-            → IsSome (get nat_eq self.new.own other) }
-        ensures stretches { self.new.stretches ≡ self.old.stretches }
-        ensures ties { self.new.ties ≡ self.old.ties }
-    {
-        match held {
-            Some(owned) => lose_own(&mut self.own, owned.segment.name, length),
-            None => self.busy += length,
-        }
-        gain_own(&mut self.own, name, length);
     }
 }

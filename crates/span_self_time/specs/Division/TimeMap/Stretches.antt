@@ -58,6 +58,13 @@ pub record IsPut (m : Starts) (k : ℤ) (v : Option (Option OwnedSegment)) (n : 
 abbrev pub AreWhole : Owners → Starts → Type 0
 AreWhole owners m = (t : ℤ) (o : Span ℕ) → IsEnd m t o → owners t ≢ Some o
 
+-- two segments of one span that touch at t are one in new
+pub record IsJoining (t : ℤ) (old new : Stretches) : Type 0 where
+  pub divided : (x : Owners) → IsDivided x (at old) → IsDivided x (at new)
+  pub keeps : (q : ℤ) → q ≢ t → IsSome (at old q) → IsSome (at new q)
+  pub ends : (x : Owners) (u : ℤ) (o : Span ℕ) → IsDivided x (at old) → IsEnd (at new) u o → IsEnd (at old) u o
+  pub apart : (x : Owners) (o : Span ℕ) → IsDivided x (at old) → IsEnd (at new) t o → x t ≢ Some o
+
 -- what is there of these
 abbrev pub present : List (Option OwnedSegment) → List OwnedSegment
 present [] = []

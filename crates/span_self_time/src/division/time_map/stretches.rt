@@ -1,6 +1,6 @@
 //! Time cut into stretches, each of one span or of none, so that any span finds its place quickly.
 ghost use Rattle.std.specs.{BTreeMap.IsOrdered, Option.option_map, Ordering.int_cmp, Prelude.{◌≡◌, ◌≢◌, ◌⊎◌, ℕ, ℤ, ◌≤ℤ◌, ◌<ℤ◌, IsSome, MatchOption, OnOk, OnErr, Some, None, length, map, slice_get, option_copied}};
-ghost use Rattle.span_self_time.specs.{least_time, Closed.greatest_until, Division.{Owners, owner_of, ForSome, Lengths.{CanGain, Gains}, TimeMap.Stretches.{at, IsLast, IsDivided, IsEnd, IsNext, IsPut, AreWhole, segments_in}}, Spans.Span, declared.segment.OwnedSegment.OwnedSegment};
+ghost use Rattle.span_self_time.specs.{least_time, Closed.greatest_until, Division.{Owners, owner_of, ForSome, Lengths.{CanGain, Gains}, TimeMap.Stretches.{at, IsLast, IsDivided, IsEnd, IsNext, IsPut, IsJoining, AreWhole, segments_in}}, Spans.Span, declared.segment.OwnedSegment.OwnedSegment};
 
 use crate::division::lengths::Lengths;
 use crate::segment::{OwnedSegment, Segment};
@@ -150,13 +150,7 @@ impl Stretches {
     /// Where a segment of one span ends at `time` and another of it starts, they become one.
     pub(crate) fn join(&mut self, time: i64)
         requires from_in_time { least_time ≤ℤ time }
-        ensures divided { (owners : Owners) → IsDivided owners (at self.old)
-            → IsDivided owners (at self.new) }
-        ensures keeps { (q : ℤ) → q ≢ time → IsSome (at self.old q) → IsSome (at self.new q) }
-        ensures ends { (owners : Owners) (t : ℤ) (o : Span ℕ) → IsDivided owners (at self.old)
-            → IsEnd (at self.new) t o → IsEnd (at self.old) t o }
-        ensures apart { (owners : Owners) (o : Span ℕ) → IsDivided owners (at self.old)
-            → IsEnd (at self.new) time o → owners time ≢ Some o }
+        ensures { IsJoining time self.old self.new }
     {
         let Some(later) = self.segment_from(time) else {
             return;

@@ -1,6 +1,6 @@
 use Rattle.std.proofs.{Common.{rules, w64, to_z, of_z, ◌≡◌, ℕ, ◌+◌, ◌<◌, ◌≢◌, ◌^◌, List, [], ◌∷◌, ◌++◌, map, length, sym, ap, ◌∙◌, subst, arith, All}, lemmas.List.map_push}
 use Rattle.span_self_time.proofs.Apart.{AreClosed-append}
-use Rattle.span_closed_spans.specs.{ClosedSpan, Span, length_of, span_of, AreClosed, Divides, Totals.{Totals, AreTotals}, TotalsKept.entries_of, declared.name_totals.NameTotal.NameTotal}
+use Rattle.span_closed_spans.specs.{ClosedSpan, Span, length_of, span_of, Divides, Totals.{Totals, AreTotals}, TotalsKept.entries_of, declared.name_totals.NameTotal.NameTotal}
 use Rattle.span_closed_spans.proofs.{Totals.{AreTotals-append, count-le-length, total-le, length_of-le}, closed.ClosedSpans.add.Goals.{After-deref, After-distance-length}}
 use Rattle.span_closed_spans.proofs.closed.ClosedSpans.add.Goals as goal
 
@@ -16,21 +16,6 @@ totals c = subst (λ (t : Totals). AreTotals t (map span_of c.self.inside.list.i
 -- what the list shows once it has room are the spans so far
 listed : (c : After-deref) → c.deref.result.now ≡ c.self.inside.list.items
 listed c = c.deref.ensures.value ∙ c.reserve_one.ensures.items
-
-pub add-requires-clause-closed : goal.add-requires-clause-closed
-add-requires-clause-closed c =
-    let at = (goal.at.add-requires-clause-closed c).After-deref in
-    subst (λ (l : List ClosedSpan). AreClosed (map span_of l)) (sym (listed at)) c.self.invariant.0
-
-pub add-requires-clause-apart : goal.add-requires-clause-apart
-add-requires-clause-apart c =
-    let at = (goal.at.add-requires-clause-apart c).After-deref in
-    subst (λ (l : List ClosedSpan). All (λ s. s.at ≢ c.args.span.at) (map span_of l)) (sym (listed at)) (apart at)
-
-pub add-requires-clause-division : goal.add-requires-clause-division
-add-requires-clause-division c =
-    let at = (goal.at.add-requires-clause-division c).After-deref in
-    subst (λ (l : List ClosedSpan). Divides (map span_of l) c.self.inside.division) (sym (listed at)) c.self.invariant.2
 
 pub add_span-requires-clause-count : goal.add_span-requires-clause-count
 add_span-requires-clause-count c =
@@ -64,10 +49,3 @@ invariant_of-self-2 c =
     let more = AreTotals-append (entries_of c.reserve.new.self) (entries_of c.add_span.new.self) spans span c.distance-length.result (totals at.After-deref) (length_is at.After-distance-length) c.add_span.ensures.names c.add_span.ensures.each in
     let division : Divides (spans ++ span ∷ []) c.add.new.self = subst (λ (l : List ClosedSpan). Divides (map span_of l ++ span ∷ []) c.add.new.self) (listed at.After-deref) c.in_ok-add.ensures.ok in
     rw after (closed, more, division)
-
-pub invariant_of-self-in_err-add : goal.invariant_of-self-in_err-add
-invariant_of-self-in_err-add c =
-    let at = (goal.at.invariant_of-self-in_err-add c).After-deref in
-    let items : c.reserve_one.new.list.items ≡ c.self.inside.list.items = c.reserve_one.ensures.items in
-    let division = subst (λ (l : List ClosedSpan). Divides (map span_of l) c.add.new.self) (listed at) c.in_err-add.ensures.err in
-    rw items (c.self.invariant.0, totals at, division)

@@ -1,6 +1,6 @@
 use Rattle.std.specs.List.{count_by}
 use Rattle.std.proofs.Common.{length, ◌≤◌, ◌*◌, ◌-◌, arith, sym, ap, ◌∙◌, subst, List}
-use Rattle.span_closed_spans.specs.{Span, lasts, AreSegments, HasSegments}
+use Rattle.span_closed_spans.specs.{Span, lasts, AreSegments}
 use Rattle.span_closed_spans.proofs.{SameSegments.AreSegments-same, SegmentEnds.length-segments}
 use Rattle.span_closed_spans.proofs.closed.ClosedSpans.segment_count.Goals as goal
 
@@ -8,11 +8,6 @@ pub returns-clause-count : goal.returns-clause-count
 returns-clause-count c = λ segments are.
     let own = c.segment_count.ensures _ c.self.invariant.0 c.self.invariant.2 in
     own.holds ∙ ap length (AreSegments-same _ _ segments own.are (subst (λ (spans : List (Span _)). AreSegments spans segments) (sym c.self.view_is) are))
-
-pub returns-clause-segments : goal.returns-clause-segments
-returns-clause-segments c =
-    let own = c.segment_count.ensures _ c.self.invariant.0 c.self.invariant.2 in
-    subst (λ (spans : List (Span _)). HasSegments spans) c.self.view_is (record { segments = own.segments; are = own.are })
 
 pub returns-clause-bound : goal.returns-clause-bound
 returns-clause-bound c =

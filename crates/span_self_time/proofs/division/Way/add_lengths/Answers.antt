@@ -14,3 +14,8 @@ add_lengths-requires-in-Searched c = λ ordered.
     let owners = c.requires.division.owners in
     let kept = subst (IsTimeMap owners) (sym c.deref-in-Searched.ensures) (subst (IsWay owners) c.in-Searched.is c.requires.division.holds) in
     CanGain-none c.args.times.now owners _ c.requires.none (AreOwnedSegments-stretches owners c.deref-in-Searched.result.now.stretches kept.divided kept.whole ordered)
+
+pub returns-in-Searched : goal.returns-in-Searched
+returns-in-Searched c = λ owners is.
+    let kept = subst (IsTimeMap owners) (sym c.deref-in-Searched.ensures) (subst (IsWay owners) c.in-Searched.is is) in
+    record { segments = _; are = AreOwnedSegments-stretches owners c.deref-in-Searched.result.now.stretches kept.divided kept.whole c.add_lengths-in-Searched.ensures.ordered; holds = c.add_lengths-in-Searched.ensures.gains }

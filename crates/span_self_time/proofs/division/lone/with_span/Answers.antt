@@ -1,12 +1,11 @@
 use Rattle.std.proofs.{Common.{Some, sym, subst, arith}, lemmas.Int.ints}
 use Rattle.span_self_time.specs.Division.{Owners, owner_of, taken, Lone.IsLone, SegmentStacks.AreSegmentStacks}
-use Rattle.span_self_time.proofs.{Lone.{nobody, AreSettled-nobody, IsNew-nobody, taken-nothing}, division.lone.with_span.Goals.In_ok-add}
+use Rattle.span_self_time.proofs.{Lone.{nobody, AreSettled-nobody, IsNew-nobody}, Owners.taken-empty, division.lone.with_span.Goals.In_ok-add}
 use Rattle.span_self_time.proofs.division.lone.with_span.Goals as goal
 
 pub returns-then-span : goal.returns-then-span
 returns-then-span c = λ owners is new settled.
-    let same = taken-nothing (owner_of c.args.span.now) owners (omega (arith, ints, c.if-span.true)) in
-    subst (λ (o : Owners). IsLone o c.args.lone) (sym same) is
+    subst (λ (o : Owners). IsLone o c.args.lone) (taken-empty (owner_of c.args.span.now) owners (omega (arith, ints, c.if-span.true))) is
 
 -- the stacks of the first span are those of its owners
 first : (c : In_ok-add) (owners : Owners) → IsLone owners c.args.lone → AreSegmentStacks owners c.add.new.self

@@ -22,18 +22,17 @@ returns-in-Some-clause-past c =
     let until : to_z w64 (of_z w64 owned.segment.until) ≡ owned.segment.until = search rules in
     let from : to_z w64 (of_z w64 c.args.from) ≡ c.args.from = to_z-of_z w64 c.args.from c.ranges.from in
     let ends : owned.segment.until ≡ c.args.from = sym until ∙ ap (to_z w64) c.if-last-from.true ∙ from in
-    λ owners only past. subst (λ t. IsTakenBack s t c.args.from old new owners) (sym start)
-    (subst (λ l. IsTakenBack s owned.segment.start c.args.from l new owners) (sym split)
-    (IsTakenBack-last s c.args.from new owned owners only (subst (λ l. ArePast owners c.args.from (reverse l)) split past) c.if-last-span.true ends))
+    λ owners only past. subst (λ t. IsTakenBack s t c.args.from new owners) (sym start)
+    (IsTakenBack-last s c.args.from new owned owners only (subst (λ l. ArePast owners c.args.from (reverse l)) split past) c.if-last-span.true ends)
 
 -- the last segment is not of the span, or ends elsewhere
 apart : (c : In-Some) → (c.in-Some.last.now.segment.at ≡ c.args.span.now.segment.at → c.in-Some.last.now.segment.until ≡ c.args.from → ⊥) → (owners : Owners) → IsOnly (owner_of c.args.span.now) owners
-    → ArePast owners c.args.from (reverse c.args.past.now.items) → IsTakenBack (owner_of c.args.span.now) (to_z w64 (of_z w64 c.args.from)) c.args.from c.args.past.now.items c.args.past.now.items owners
+    → ArePast owners c.args.from (reverse c.args.past.now.items) → IsTakenBack (owner_of c.args.span.now) (to_z w64 (of_z w64 c.args.from)) c.args.from c.args.past.now.items owners
 apart c differs owners only past =
     let s = owner_of c.args.span.now in
     let old = c.args.past.now.items in
     let from : to_z w64 (of_z w64 c.args.from) ≡ c.args.from = to_z-of_z w64 c.args.from c.ranges.from in
-    subst (λ t. IsTakenBack s t c.args.from old old owners) (sym from)
+    subst (λ t. IsTakenBack s t c.args.from old owners) (sym from)
     (IsTakenBack-apart s c.args.from old owners only past (λ p is at ends.
     let same : p ≡ c.in-Some.last.now = same_Some p c.in-Some.last.now (sym is ∙ last_is c) in
     differs (ap (λ (q : OwnedSegment). q.segment.at) (sym same) ∙ at) (ap (λ (q : OwnedSegment). q.segment.until) (sym same) ∙ ends)))

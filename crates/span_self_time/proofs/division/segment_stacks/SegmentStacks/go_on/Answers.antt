@@ -1,11 +1,11 @@
 use Rattle.std.proofs.{Common.{rules, ◌≡◌, ◌<ℤ◌, true, int_lt, w64, to_z, of_z, sym, ◌∙◌, arith}, lemmas.Int.ints}
 use Rattle.span_self_time.specs.{Division.{Owners, owner_of, SegmentStacks.{IsTaking, IsAhead}}, declared.division.segment_stacks.SegmentStacks.SegmentStacks}
-use Rattle.span_self_time.proofs.{SegmentStacks.{Passing.IsAhead-taking, Taking.{IsGapBefore-taken, starts_before-last}}, division.segment_stacks.SegmentStacks.go_on.Goals.In-Some}
+use Rattle.span_self_time.proofs.{SegmentStacks.Taking.{IsAhead-taking, before-last, starts_before-last}, division.segment_stacks.SegmentStacks.go_on.Goals.In-Some}
 use Rattle.span_self_time.proofs.division.segment_stacks.SegmentStacks.go_on.Goals as goal
 
 -- the stacks without the segment that comes next
 abbrev rest : In-Some → SegmentStacks
-rest c = record { past = c.args.self.now.past; future = c.pop.new.self; own = c.args.self.now.own; busy = c.args.self.now.busy }
+rest c = record { past = c.args.self.now.past; future = c.pop.new.self; times = c.args.self.now.times }
 
 within : (c : In-Some) → c.in-Some.owned.segment.start <ℤ c.args.span.now.span_until
 within c =
@@ -21,9 +21,6 @@ fill_before-requires-clause-ahead c =
     let time : to_z w64 (of_z w64 c.args.time) ≡ c.args.time = search rules in
     let at = (goal.at.fill_before-requires-clause-ahead c).In-Some in
     rw time (record { owners = c.requires.taken.owners; holds = ahead at c.requires.taken.owners c.requires.taken.holds })
-
-pub fill_before-requires-clause-within : goal.fill_before-requires-clause-within
-fill_before-requires-clause-within c = within (goal.at.fill_before-requires-clause-within c).In-Some
 
 pub pass-requires : goal.pass-requires
 pass-requires c =
@@ -45,6 +42,6 @@ returns-clause-on c =
     let start : to_z w64 (of_z w64 c.in-Some.owned.segment.start) ≡ c.in-Some.owned.segment.start = search rules in
     let result : to_z w64 (of_z w64 c.pass.result) ≡ c.pass.result = search rules in
     let at = (goal.at.returns-clause-on c).In-Some in
-    let gap = IsGapBefore-taken _ _ _ _ _ _ (ahead at c.requires.taken.owners c.requires.taken.holds).taken in
+    let gap = before-last _ _ _ _ _ _ (ahead at c.requires.taken.owners c.requires.taken.holds).taken in
     let on : c.in-Some.owned.segment.start <ℤ c.pass.result = rw start at c.pass.ensures.on in
-    rw result (omega (arith, ints, gap.first, on))
+    rw result (omega (arith, ints, gap, on))

@@ -1,6 +1,6 @@
-use Rattle.std.proofs.Common.{rules, ◌≡◌, false, w64, to_z, of_z, arith}
-use Rattle.span_self_time.specs.{Division.owner_of, Spans.outranks}
-use Rattle.span_self_time.proofs.SegmentStacks.{SegmentSums.AreSums-push, Taking.IsTakenTo-kept}
+use Rattle.std.proofs.Common.{rules, ◌≡◌, false, w64, to_z, of_z, subst, arith}
+use Rattle.span_self_time.specs.{Division.{Owners, owner_of, OwnTimes.AreTimes}, Spans.outranks}
+use Rattle.span_self_time.proofs.SegmentStacks.Taking.{IsTakenTo-kept, taken_to-kept}
 use Rattle.span_self_time.proofs.division.segment_stacks.SegmentStacks.pass.Goals as goal
 
 pub returns-then-outranks-clause-taken : goal.returns-then-outranks-clause-taken
@@ -15,7 +15,7 @@ returns-clause-taken c = λ owners is.
     let below : outranks (owner_of c.args.span.now) (owner_of c.args.owned) ≡ false = search rules in
     rw until (record {
       taken = rw c.push_reserved.ensures.items (IsTakenTo-kept _ _ _ _ _ owners is.next below);
-      sums = rw c.push_reserved.ensures.items (AreSums-push _ _ _ c.args.self.now.past.items c.args.self.now.future.items is.sums);
+      times = subst (λ (o : Owners). AreTimes o c.args.self.now.times) (taken_to-kept _ _ _ _ _ owners is.next below) is.times;
       kept = is.kept;
       room = λ before. omega (arith, is.room, c.push_reserved.ensures.len, c.push_reserved.ensures.capacity);
     })

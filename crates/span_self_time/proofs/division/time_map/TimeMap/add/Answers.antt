@@ -1,19 +1,22 @@
-use Rattle.std.proofs.{Common.{rules, ◌≡◌, ◌≤ℤ◌, ℕ, ◌∙◌, subst, w64, to_z, of_z, arith}, lemmas.Int.ints}
-use Rattle.span_self_time.specs.{Division.{Owners, owner_of, own_in, taken, IsNew, AreSettled, TimeMap.{IsTimeMap, IsEntrant, IsTaking}}, declared.division.time_map.TimeMap.TimeMap}
-use Rattle.span_self_time.proofs.{TimeMap.{Advancing.taken-empty, Barring.IsBarred-own, Charging.{IsJoining, IsTaking-start, IsTimeMap-taken}, Searching.on_err}, division.time_map.TimeMap.add.Goals.{Else-span, After-keep_name}}
+use Rattle.std.proofs.{Common.{rules, ◌≡◌, ◌≤ℤ◌, subst, w64, to_z, of_z, arith}, lemmas.Int.ints}
+use Rattle.span_self_time.specs.{Division.{Owners, owner_of, taken, IsNew, AreSettled, TimeMap.{IsTimeMap, IsEntrant, IsTaking, Stretches.IsJoining}}, declared.division.time_map.TimeMap.TimeMap}
+use Rattle.span_self_time.proofs.{Owners.taken-empty, TimeMap.{Barring.IsBarred-own, Charging.{IsTaking-start, IsTimeMap-taken}, Searching.on_err}, division.time_map.TimeMap.add.Goals.{Else-span, In_ok-split_both}}
 use Rattle.span_self_time.proofs.division.time_map.TimeMap.add.Goals as goal
 
 pub returns-then-span-clause-ok : goal.returns-then-span-clause-ok
 returns-then-span-clause-ok c = λ owners is new settled.
     subst (λ (x : Owners). IsTimeMap x c.args.self.now) (taken-empty (owner_of c.args.span.now) owners (omega (arith, ints, c.if-span.true))) is
 
+pub returns-in_err-keep-clause-err : goal.returns-in_err-keep-clause-err
+returns-in_err-keep-clause-err c =
+    on_err c.from_residual.result (λ owners is. record { divided = is.divided; whole = is.whole; times = c.keep.ensures.same owners is.times; barred = is.barred })
+
 pub returns-in_err-split_both-clause-err : goal.returns-in_err-split_both-clause-err
 returns-in_err-split_both-clause-err c =
-    let own : (name : ℕ) → own_in c.reserve.new.self name ≡ own_in c.args.self.now.own name = λ name. search rules in
-    let still : (owners : Owners) → IsTimeMap owners c.args.self.now → IsTimeMap owners (record { stretches = c.split_both.new.self; ties = c.args.self.now.ties; own = c.reserve.new.self; busy = c.args.self.now.busy }) = λ owners is. record {
+    let still : (owners : Owners) → IsTimeMap owners c.args.self.now → IsTimeMap owners (record { stretches = c.split_both.new.self; ties = c.args.self.now.ties; times = c.keep.new.self }) = λ owners is. record {
       divided = c.split_both.ensures.divided owners is.divided;
       whole = c.in_err-split_both.ensures.err owners is.divided is.whole;
-      times = record { of_names = λ name. own name ∙ is.times.of_names name; of_all = is.times.of_all };
+      times = c.keep.ensures.same owners is.times;
       barred = is.barred;
     } in
     on_err c.from_residual-in_err-split_both.result still
@@ -29,33 +32,32 @@ entrant c owners new settled =
     }
 
 -- the map of which the span takes its own
-abbrev ready : After-keep_name → TimeMap
-ready c = record { stretches = c.split_both.new.self; ties = c.args.self.now.ties; own = c.keep_name.new.own; busy = c.args.self.now.busy }
+abbrev ready : In_ok-split_both → TimeMap
+ready c = record { stretches = c.split_both.new.self; ties = c.args.self.now.ties; times = c.keep.new.self }
 
-start : (c : After-keep_name) (owners : Owners) → IsTimeMap owners c.args.self.now → IsTaking (owner_of c.args.span.now) c.args.span.now.span_start (ready c) owners
+start : (c : In_ok-split_both) (owners : Owners) → IsTimeMap owners c.args.self.now → IsTaking (owner_of c.args.span.now) c.args.span.now.span_start (ready c) owners
 start c owners is =
     let first : to_z w64 (of_z w64 c.args.span.now.span_start) ≡ c.args.span.now.span_start = search rules in
     let until : to_z w64 (of_z w64 c.args.span.now.span_until) ≡ c.args.span.now.span_until = search rules in
-    let own : (name : ℕ) → own_in c.keep_name.new.own name ≡ own_in c.args.self.now.own name = λ name. c.keep_name.ensures.same name ∙ search rules in
-    IsTaking-start (owner_of c.args.span.now) c.args.self.now c.split_both.new.self c.keep_name.new.own owners is
+    IsTaking-start (owner_of c.args.span.now) c.args.self.now c.split_both.new.self c.keep.new.self owners is
     c.split_both.ensures.divided
     (rw first at (c.in_ok-split_both.ensures.from owners is.divided))
     (rw until at c.in_ok-split_both.ensures.until)
     (rw (first, until) at c.in_ok-split_both.ensures.ends)
-    own c.keep_name.ensures.kept
+    c.keep.ensures.same c.in_ok-keep.ensures.kept
 
 pub go_through-requires : goal.go_through-requires
 go_through-requires c =
     let at = goal.at.go_through-requires c in
     let is = c.requires.is in
-    record { owners = is.owners; holds = (entrant at.Else-span is.owners is.holds.1 is.holds.2, start at.After-keep_name is.owners is.holds.0) }
+    record { owners = is.owners; holds = (entrant at.Else-span is.owners is.holds.1 is.holds.2, start at.In_ok-split_both is.owners is.holds.0) }
 
 pub returns-clause-ok : goal.returns-clause-ok
 returns-clause-ok c = λ owners is new settled.
     let at = goal.at.returns-clause-ok c in
     let first : to_z w64 (of_z w64 c.args.span.now.span_start) ≡ c.args.span.now.span_start = search rules in
     let until : to_z w64 (of_z w64 c.args.span.now.span_until) ≡ c.args.span.now.span_until = search rules in
-    let taking = c.go_through.ensures owners (entrant at.Else-span owners new settled) (start at.After-keep_name owners is) in
-    let once : IsJoining c.args.span.now.span_until c.go_through.new.self.stretches c.join.new.self = subst (λ t. IsJoining t c.go_through.new.self.stretches c.join.new.self) until (record { divided = c.join.ensures.divided; keeps = c.join.ensures.keeps; ends = c.join.ensures.ends; apart = c.join.ensures.apart }) in
-    let twice : IsJoining c.args.span.now.span_start c.join.new.self c.join-2.new.self = subst (λ t. IsJoining t c.join.new.self c.join-2.new.self) first (record { divided = c.join-2.ensures.divided; keeps = c.join-2.ensures.keeps; ends = c.join-2.ensures.ends; apart = c.join-2.ensures.apart }) in
+    let taking = c.go_through.ensures owners (entrant at.Else-span owners new settled) (start at.In_ok-split_both owners is) in
+    let once : IsJoining c.args.span.now.span_until c.go_through.new.self.stretches c.join.new.self = subst (λ t. IsJoining t c.go_through.new.self.stretches c.join.new.self) until c.join.ensures in
+    let twice : IsJoining c.args.span.now.span_start c.join.new.self c.join-2.new.self = subst (λ t. IsJoining t c.join.new.self c.join-2.new.self) first c.join-2.ensures in
     c.note.ensures (taken (owner_of c.args.span.now) owners) (IsBarred-own (owner_of c.args.span.now) owners) (IsTimeMap-taken (owner_of c.args.span.now) c.go_through.new.self c.join.new.self c.join-2.new.self owners taking once twice)

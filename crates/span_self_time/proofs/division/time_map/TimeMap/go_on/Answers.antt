@@ -1,7 +1,7 @@
 use Rattle.std.specs.Option.{option_map}
 use Rattle.std.proofs.{Common.{rules, ◌≡◌, false, true, Some, sym, ap, ◌∙◌, w64, to_z, of_z, ◌<ℤ◌, arith}, lemmas.Int.{ints, by_lt_z}}
-use Rattle.span_self_time.specs.Division.{Owners, owner_of, claims, TimeMap.{IsEntrant, IsTaking, taken_to}}
-use Rattle.span_self_time.proofs.TimeMap.Advancing.{IsTaking-over, claimed-starts, claims-covered, taken_to-after, covers-start, covers-until}
+use Rattle.span_self_time.specs.Division.{Owners, owner_of, claims, taken_to, TimeMap.{IsEntrant, IsTaking}}
+use Rattle.span_self_time.proofs.{Owners.taken_to-after, TimeMap.Advancing.{IsTaking-over, claimed-starts, claims-covered, covers-start, covers-until}}
 use Rattle.span_self_time.proofs.division.time_map.TimeMap.go_on.Goals as goal
 
 pub take-requires-clause-held : goal.take-requires-clause-held
@@ -36,9 +36,6 @@ later : (c : goal.After-over) (owners : Owners) → IsEntrant (owner_of c.args.s
 later c owners enter is =
     let until = covers-until (owner_of c.in-Some.owned) c.args.time (enter.settled.own c.args.time (owner_of c.in-Some.owned) (owned c owners is)) in
     omega (arith, ints, until, c.over.ensures.on)
-
-pub over-requires : goal.over-requires
-over-requires c = ap (λ x. claims (owner_of c.args.span.now) (option_map owner_of x)) (sym c.in-Some.is) ∙ sym c.claims.ensures ∙ c.if-claims.false
 
 pub returns-clause-taking : goal.returns-clause-taking
 returns-clause-taking c = λ owners enter is.

@@ -1,7 +1,8 @@
--- How the time in which an owner passes a test changes as a stretch changes hands.
-use Rattle.std.proofs.{Common.{◌<◌, ◌-◌, ◌≡◌, ◌≤◌, ◌^◌, ℕ, ◌+◌, Bool, true, false, cond, ℤ, pos, ◌-ℤ◌, ◌≤ℤ◌, ◌<ℤ◌, Option, None, ap, ◌∙◌, arith}, lemmas.Int.ints}
-use Rattle.span_self_time.specs.{distance, least_time, Closed.greatest_until, Division.{Owners, Belong, TimeMap.time_of}, Spans.{Span, count_from}}
-use Rattle.span_self_time.proofs.Counts.{add-distance, distance-add, count_from-add, count_from-same, count_from-unbroken, count_from-none, count_from-le}
+-- How the time in which an owner passes a test, and with it the running times, change as a stretch changes hands.
+use Rattle.std.specs.Option.{option_map, is_some}
+use Rattle.std.proofs.{Common.{◌<◌, ◌-◌, ◌≡◌, ◌≤◌, ◌^◌, ℕ, ◌+◌, Bool, true, false, cond, nat_eq, ℤ, pos, ◌-ℤ◌, ◌≤ℤ◌, ◌<ℤ◌, IfSome, Option, None, Some, refl, ap, ◌∙◌, eq-eqb, arith}, lemmas.{Grind.common_steps, Int.ints}}
+use Rattle.span_self_time.specs.{distance, least_time, Closed.{greatest_until, IsInTime}, Division.{Owners, Belong, owner_of, own_in, claims, taken_to, OwnTimes.{has_name, time_of, AreTimes, IsReplaced}}, Spans.{Span, count_from}, declared.{division.own_times.OwnTimes.OwnTimes, segment.OwnedSegment.OwnedSegment}}
+use Rattle.span_self_time.proofs.{Counts.{add-distance, distance-add, count_from-add, count_from-same, count_from-unbroken, count_from-none, count_from-le}}
 
 count_from-split : (f : ℤ → Bool) (a b c : ℤ) → a ≤ℤ b → b ≤ℤ c → count_from a (distance a c) f ≡ count_from a (distance a b) f + count_from b (distance b c) f
 count_from-split f a b c first then =
@@ -17,16 +18,6 @@ count_from-stretch q owners a t n b p first lasts last belongs =
 count_from-agreed : (q : Option (Span ℕ) → Bool) (old new : Owners) (a b : ℤ) → a ≤ℤ b → ((u : ℤ) → a ≤ℤ u → u <ℤ b → new u ≡ old u) → count_from a (distance a b) (λ u. q (new u)) ≡ count_from a (distance a b) (λ u. q (old u))
 count_from-agreed q old new a b forward same =
     count_from-same (λ u. q (new u)) (λ u. q (old u)) a (distance a b) (λ u from before. let end = add-distance a b forward in ap q (same u from (omega (arith, ints, end))))
-
--- new has what old has but from t to n, where r follows p
-pub record IsReplaced (old new : Owners) (t n : ℤ) (p r : Option (Span ℕ)) : Type 0 where
-  pub first : least_time ≤ℤ t
-  pub lasts : t <ℤ n
-  pub last : n ≤ℤ greatest_until
-  pub before : (u : ℤ) → u <ℤ t → new u ≡ old u
-  pub after : (u : ℤ) → n ≤ℤ u → new u ≡ old u
-  pub was : Belong old t n p
-  pub is : Belong new t n r
 
 pub time_of-replaced : (q : Option (Span ℕ) → Bool) (old new : Owners) (t n : ℤ) (p r : Option (Span ℕ)) → IsReplaced old new t n p r → time_of q new + cond (q p) (distance t n) 0 ≡ time_of q old + cond (q r) (distance t n) 0
 unfolding time_of
@@ -68,3 +59,38 @@ time_of-none q none = from least_time (distance least_time greatest_until)
   where
     from : (a : ℤ) (n : ℕ) → count_from a n (λ u. q None) ≡ 0
     from a n = count_from-none (λ u. q None) a n (λ u here before. none)
+
+-- a span takes from its owner what it has a claim on
+pub IsReplaced-claimed : (s : Span ℕ) (t n : ℤ) (x : Option (Span ℕ)) (owners : Owners) → IsInTime s → s.start ≤ℤ t → t <ℤ n → n ≤ℤ s.until → Belong owners t n x → claims s x ≡ true → IsReplaced (taken_to s t owners) (taken_to s n owners) t n x (Some s)
+IsReplaced-claimed s t n x owners in_time from later ends was claimed = grind (arith, ints, common_steps)
+
+-- who held the stretch has at least its time
+pub held-length : (v : Option OwnedSegment) (times : OwnTimes) (owners new : Owners) (t n : ℤ) (r : Option (Span ℕ)) (d : ℕ) → AreTimes owners times → IsReplaced owners new t n (option_map owner_of v) r → d ≡ distance t n → IfSome v (λ owned. d ≤ own_in times.names owned.segment.name)
+held-length None times owners new t n r d are change length = tt
+held-length (Some p) times owners new t n r d are change length =
+    let least = distance-time_of (has_name p.segment.name) owners t n (Some (owner_of p)) change.first (omega (arith, ints, change.lasts)) change.last change.was (eq-eqb p.segment.name p.segment.name refl) in
+    omega (arith, least, length, are.of_names p.segment.name)
+
+-- the running times have room for what the span takes, once who held it has lost it
+pub charged-small : (q : Option (Span ℕ) → Bool) (v : Option OwnedSegment) (s : Span ℕ) (old new : Owners) (t n : ℤ) (had d : ℕ) → IsReplaced old new t n (option_map owner_of v) (Some s) → q (Some s) ≡ true → had ≡ time_of q old → d ≡ distance t n → had + d < 2 ^ 64 + cond (q (option_map owner_of v)) d 0
+charged-small q v s old new t n had d change passes has length =
+    let gained = ap (λ b. cond b (distance t n) 0) passes in
+    let lost = ap (λ x. cond (q (option_map owner_of v)) x 0) length in
+    omega (arith, has, length, gained, lost, time_of-replaced q old new t n (option_map owner_of v) (Some s) change, time_of-le q new)
+
+pub is_some-owner : (v : Option OwnedSegment) → is_some (option_map owner_of v) ≡ is_some v
+is_some-owner None = refl
+is_some-owner (Some p) = refl
+
+pub AreTimes-charged : (v : Option OwnedSegment) (s : Span ℕ) (times more : OwnTimes) (old new : Owners) (t n : ℤ) (d : ℕ) → IsReplaced old new t n (option_map owner_of v) (Some s) → AreTimes old times → d ≡ distance t n
+    → ((name : ℕ) → own_in more.names name + cond (has_name name (option_map owner_of v)) d 0 ≡ own_in times.names name + cond (nat_eq s.name name) d 0) → more.busy + cond (is_some v) d 0 ≡ times.busy + d → AreTimes new more
+AreTimes-charged v s times more old new t n d change are length charged all = record {
+  of_names = λ name.
+      let gained = ap (λ x. cond (nat_eq s.name name) x 0) length in
+      let lost = ap (λ x. cond (has_name name (option_map owner_of v)) x 0) length in
+      omega (arith, charged name, gained, lost, are.of_names name, time_of-replaced (has_name name) old new t n (option_map owner_of v) (Some s) change);
+  of_all =
+      let lost = ap (λ x. cond (is_some (option_map owner_of v)) x 0) length in
+      let same = ap (λ b. cond b d 0) (is_some-owner v) in
+      omega (arith, all, lost, length, are.of_all, time_of-replaced is_some old new t n (option_map owner_of v) (Some s) change, same);
+}

@@ -1,8 +1,0 @@
-use Rattle.std.proofs.Common.{◌≤◌, ◌-◌, vec_len}
-use Rattle.span_self_time.proofs.division.segment_stacks.ends_beyond.Given as goal
-
-abbrev pub invariant-loop-reach : goal.invariant-loop-reach
-invariant-loop-reach l = 64 ≤ l.reach
-
-abbrev pub decreases-loop-reach : goal.decreases-loop-reach
-decreases-loop-reach l = vec_len l.segments - l.reach

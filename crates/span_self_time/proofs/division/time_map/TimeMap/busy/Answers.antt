@@ -1,6 +1,0 @@
-use Rattle.std.proofs.Common.{◌∙◌}
-use Rattle.span_self_time.proofs.SpanTimes.{time_of-busy_time}
-use Rattle.span_self_time.proofs.division.time_map.TimeMap.busy.Goals as goal
-
-pub returns : goal.returns
-returns c = λ spans closed is. is.times.of_all ∙ time_of-busy_time spans closed
