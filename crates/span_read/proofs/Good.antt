@@ -3,7 +3,7 @@ use Rattle.std.specs.{Int.RustNames.int_le, List.AllByRecursion as ByRecursion}
 use Rattle.std.proofs.{Common.{◌≡◌, ℕ, ℤ, pos, negsuc, neg_ℤ, ◌≤◌, ◌≤ℤ◌, List, [], ◌∷◌, Bool, true, false, ◌&&◌, ◌||◌, Option, Some, None, IsSome, IfSome, ◌⊎◌, inl, inr, is_some, All, unwrap_or, option_map, option_and_then, codes, if◌then◌else◌, refl, sym, subst, ◌∙◌, arith}, lemmas.{Int.ints, List.Elements.{All-from_recursion, All-weaker}}}
 use Rattle.serde_json.specs.Data.{Data, null, boolean, number, string, array, object, Items, no_items, item}
 use Rattle.span_event.specs.declared.event.Phase.{Phase}
-use Rattle.span_read.specs.{ArgValue, Whole, Words, Flag, Nil, Other, SpanBegin, SpanEnd, Complete, AsyncBegin, AsyncPoint, AsyncEnd, FlowStart, FlowStep, FlowEnd, Counter, Instant, Meta, IdKey, Id, Item, Good, Bad, ItemFault, NotWhole, BadField, NoId, BadReach, BadSeries, IsTime, IsKnownAt, IsGood, IsGoodAt, greatest_time, IsGoodItem, value_of, AllWhole, all_whole, natural, Unit, Microseconds, Nanoseconds, Document.items_of, Element.{unless, where_read, time_fault, duration_fault, is_length, time_or_zero, duration_or_zero, id_fault, first_fault, faults, fault_of, event_of, item_of_phase, item_of_letter, item_of_fields, item_of_data}, Fields.{fields_of, whole, words, pairs, whole_or_zero, id_text, parts_key, key_of, reach_of, args_of}, Phase.{reads_time, reads_duration, reads_id, needs_id, reads_reach, wants_whole_args, phase_of}, Time.{IsInRange, IsItemInRange, IsTimeIn, greatest_in, number_in, time_in, within}, declared.fields.{FieldValue.{FieldValue, TheVariants.{Plain, Float, Pairs}}, Fields.Fields}}
+use Rattle.span_read.specs.{ArgValue, Whole, Words, Flag, Nil, Other, SpanBegin, SpanEnd, Complete, AsyncBegin, AsyncPoint, AsyncEnd, FlowStart, FlowStep, FlowEnd, Counter, Instant, Meta, IdKey, Id, Item, Good, Bad, ItemFault, NotWhole, BadField, NoId, BadReach, BadSeries, IsTime, IsKnownAt, IsGoodAt, greatest_time, IsGoodItem, value_of, AllWhole, all_whole, natural, Unit, Microseconds, Nanoseconds, Document.items_of, Element.{unless, where_read, time_fault, duration_fault, is_length, time_or_zero, duration_or_zero, id_fault, first_fault, faults, fault_of, event_of, item_of_phase, item_of_letter, item_of_fields, item_of_data}, Fields.{fields_of, words, pairs, whole_or_zero, id_text, parts_key, key_of, reach_of, args_of}, Phase.{reads_time, reads_duration, reads_id, needs_id, reads_reach, wants_whole_args, phase_of}, Time.{IsItemInRange, IsTimeIn, greatest_in, number_in, time_in, within}, declared.fields.{FieldValue.{FieldValue, TheVariants.{Plain, Float, Pairs}}, Fields.Fields}}
 
 -- ---- no fault in a list is no fault in each
 

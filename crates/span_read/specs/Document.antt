@@ -1,14 +1,14 @@
 -- What the bytes of a file are: the items of a trace, or why the file is refused.
 use Rattle.std.specs.{List.suffix_len, Option.option_or, Prelude.{ℕ, ◌-◌, ◌==◌, ◌||◌, List, [], ◌∷◌, ◌++◌, take, length, slice_index, Bool, false, Option, Some, None, option_and_then, Result, Ok, Err, nat_lt, codes, if◌then◌else◌}, Str.is_utf8}
 use Rattle.serde_json.specs.{Data.{Data, array, object, Items, no_items, item}, Events.items_len, Find.{get_member, as_array}, Read.read}
-use Rattle.span_read.specs.{Item, Unit, Element.item_of_data, declared.error.ReadError.{ReadError, TheVariants.{TooLarge, NotJson, NotTrace, TooMany}}}
+use Rattle.span_read.specs.{Item, Unit, Element.item_of_data, declared.{error.ReadError.{ReadError, TheVariants.{TooLarge, NotJson, NotTrace, TooMany}}, format.Format.Format}}
 
--- the most bytes in one file, and the most items
-abbrev pub most_bytes : ℕ
-most_bytes = 67108864
+-- the bounds of a file where nothing else is said, and those of a large one
+abbrev pub format_of : Unit → Format
+format_of unit = record { unit = unit; most_bytes = 67108864; most_elements = 4194304 }
 
-abbrev pub most_items : ℕ
-most_items = 4194304
+abbrev pub large_format : Unit → Format
+large_format unit = record { unit = unit; most_bytes = 4294967295; most_elements = 4294967295 }
 
 -- blanks are space, tab, line feed and carriage return
 abbrev pub is_blank : ℕ → Bool
@@ -53,14 +53,14 @@ abbrev pub items_of : Unit → Items → List Item
 items_of unit no_items = []
 items_of unit (item d ds) = item_of_data unit d ∷ items_of unit ds
 
-abbrev pub doc_of_elements : Unit → Option Items → Result (List Item) ReadError
-doc_of_elements unit None = Err NotTrace
-doc_of_elements unit (Some ds) = if nat_lt most_items (items_len ds) then Err TooMany else Ok (items_of unit ds)
+abbrev pub doc_of_elements : Format → Option Items → Result (List Item) ReadError
+doc_of_elements format None = Err NotTrace
+doc_of_elements format (Some ds) = if nat_lt format.most_elements (items_len ds) then Err TooMany else Ok (items_of format.unit ds)
 
-abbrev pub doc_of_document : Unit → Option Data → Result (List Item) ReadError
-doc_of_document unit None = Err NotJson
-doc_of_document unit (Some d) = doc_of_elements unit (elements_of d)
+abbrev pub doc_of_document : Format → Option Data → Result (List Item) ReadError
+doc_of_document format None = Err NotJson
+doc_of_document format (Some d) = doc_of_elements format (elements_of d)
 
--- the items of a file's bytes in a run of that unit, or the first reason why the file is refused
-abbrev pub doc : Unit → List ℕ → Result (List Item) ReadError
-doc unit bytes = if nat_lt most_bytes (length bytes) then Err TooLarge else doc_of_document unit (document bytes)
+-- the items of a file's bytes in a run of that format, or the first reason why the file is refused
+abbrev pub doc : Format → List ℕ → Result (List Item) ReadError
+doc format bytes = if nat_lt format.most_bytes (length bytes) then Err TooLarge else doc_of_document format (document bytes)

@@ -6,52 +6,53 @@ ghost use Rattle.span_read.specs.{Document.{is_blank, opens_array, without_trail
 use crate::document::read_all;
 use crate::error::ReadError;
 use crate::error::stop::Stop;
+use crate::format::Format;
 use crate::recent::RecentTexts;
 use crate::tokens::Tokens;
 use json::{Reader, Scratch};
-use span_event::{Items, Unit};
+use span_event::Items;
 use std::alloc::Global;
 
 /// How deep arrays and objects may nest.
 const MAX_DEPTH: usize = 127;
 
 /// What the first candidate that reads is. None is a copy.
-pub(crate) fn read_first(alloc: Global, unit: Unit, text: &str) -> Result<Items, ReadError>
+pub(crate) fn read_first(alloc: Global, format: Format, text: &str) -> Result<Items, ReadError>
     ensures { result ≢ Err Memory
-        → result ≡ doc_of_document unit (first_read (candidates text.now)) }
+        → result ≡ doc_of_document format (first_read (candidates text.now)) }
 {
-    match read_closed(alloc, unit, text) {
-        Err(ReadError::NotJson) if opens_array(text) => read_unfinished(alloc, unit, text),
+    match read_closed(alloc, format, text) {
+        Err(ReadError::NotJson) if opens_array(text) => read_unfinished(alloc, format, text),
         answer => answer,
     }
 }
 
-fn read_unfinished(alloc: Global, unit: Unit, text: &str) -> Result<Items, ReadError>
-    ensures { result ≢ Err Memory → result ≡ doc_of_document unit
+fn read_unfinished(alloc: Global, format: Format, text: &str) -> Result<Items, ReadError>
+    ensures { result ≢ Err Memory → result ≡ doc_of_document format
         (first_read (cut_text text.now ∷ (cut_text text.now ++ 93 ∷ []) ∷ [])) }
 {
     let cut = cut_text(text);
-    match read_closed(alloc, unit, cut) {
-        Err(ReadError::NotJson) => read_text(alloc, unit, cut, true),
+    match read_closed(alloc, format, cut) {
+        Err(ReadError::NotJson) => read_text(alloc, format, cut, true),
         answer => answer,
     }
 }
 
 /// An array whose closing bracket is missing isn't read to its end to find that out.
-fn read_closed(alloc: Global, unit: Unit, text: &str) -> Result<Items, ReadError>
-    ensures { result ≢ Err Memory → result ≡ doc_of_document unit (read text.now) }
+fn read_closed(alloc: Global, format: Format, text: &str) -> Result<Items, ReadError>
+    ensures { result ≢ Err Memory → result ≡ doc_of_document format (read text.now) }
 {
     if opens_array(text) && !closes_array(text) {
         Err(ReadError::NotJson)
     } else {
-        read_text(alloc, unit, text, false)
+        read_text(alloc, format, text, false)
     }
 }
 
 /// Reads the text, or the text and a closing bracket behind it.
-fn read_text(alloc: Global, unit: Unit, text: &str, bracket: bool) -> Result<Items, ReadError>
+fn read_text(alloc: Global, format: Format, text: &str, bracket: bool) -> Result<Items, ReadError>
     ensures { result ≢ Err Memory
-        → result ≡ doc_of_document unit (read (if bracket then text.now ++ 93 ∷ [] else text.now)) }
+        → result ≡ doc_of_document format (read (if bracket then text.now ++ 93 ∷ [] else text.now)) }
 {
     let mut scratch = Scratch::new(alloc);
     let Ok(reader) = Reader::new(text, &mut scratch) else {
@@ -66,7 +67,7 @@ fn read_text(alloc: Global, unit: Unit, text: &str, bracket: bool) -> Result<Ite
         recent,
         pairs: Vec::new(alloc),
     };
-    match read_all(&mut tokens, unit, MAX_DEPTH, bracket) {
+    match read_all(&mut tokens, format, MAX_DEPTH, bracket) {
         Ok(found) => found,
         Err(Stop::NotJson) => Err(ReadError::NotJson),
         Err(Stop::Memory) => Err(ReadError::Memory),

@@ -9,6 +9,7 @@ use crate::element::item_of_fields;
 use crate::error::ReadError;
 use crate::error::stop::Stop;
 use crate::fields::Fields;
+use crate::format::Format;
 use crate::tokens::Tokens;
 use crate::tokens::beginning::{Beginning, beginning_of, next_beginning};
 use crate::tokens::kept::read_members;
@@ -16,37 +17,35 @@ use crate::tokens::pass::{pass_array, pass_begun, pass_object, pass_value};
 use json::{Invalid, Token};
 use span_event::{Item, ItemFault, Items, Unit};
 
-const MOST_ITEMS: usize = 4_194_304;
-
 /// The items of a document, or why it is no trace that can be used.
 pub(crate) type Found = Result<Items, ReadError>;
 
 /// Reads the document that all the tokens are, or that they are with a closing bracket behind them.
 pub(crate) fn read_all(
     tokens: &mut Tokens<'_>,
-    unit: Unit,
+    format: Format,
     depth: usize,
     bracket: bool,
 ) -> Result<Found, Stop>
     ensures found { IfOk result (λ found.
-        found ≡ doc_of_document unit (data_of_all depth (ended bracket tokens.old.reader))) }
+        found ≡ doc_of_document format (data_of_all depth (ended bracket tokens.old.reader))) }
     ensures refused { IsNotJson result
         → data_of_all depth (ended bracket tokens.old.reader) ≡ None }
 {
     if bracket {
-        read_unclosed(tokens, unit, depth)
+        read_unclosed(tokens, format, depth)
     } else {
-        read_whole(tokens, unit, depth)
+        read_whole(tokens, format, depth)
     }
 }
 
 /// The document that all the tokens are.
-fn read_whole(tokens: &mut Tokens<'_>, unit: Unit, depth: usize) -> Result<Found, Stop>
+fn read_whole(tokens: &mut Tokens<'_>, format: Format, depth: usize) -> Result<Found, Stop>
     ensures found { IfOk result (λ found.
-        found ≡ doc_of_document unit (data_of_all depth tokens.old.reader)) }
+        found ≡ doc_of_document format (data_of_all depth tokens.old.reader)) }
     ensures refused { IsNotJson result → data_of_all depth tokens.old.reader ≡ None }
 {
-    let found = read_document(tokens, unit, depth)?;
+    let found = read_document(tokens, format, depth)?;
     if tokens.reader.next().is_some() {
         return Err(Stop::NotJson);
     }
@@ -54,38 +53,38 @@ fn read_whole(tokens: &mut Tokens<'_>, unit: Unit, depth: usize) -> Result<Found
 }
 
 /// The array that all the tokens are but for its closing bracket.
-fn read_unclosed(tokens: &mut Tokens<'_>, unit: Unit, depth: usize) -> Result<Found, Stop>
+fn read_unclosed(tokens: &mut Tokens<'_>, format: Format, depth: usize) -> Result<Found, Stop>
     ensures found { IfOk result (λ found.
-        found ≡ doc_of_document unit (data_of_all depth (with_bracket tokens.old.reader))) }
+        found ≡ doc_of_document format (data_of_all depth (with_bracket tokens.old.reader))) }
     ensures refused { IsNotJson result → data_of_all depth (with_bracket tokens.old.reader) ≡ None }
 {
     let token = tokens.reader.next().ok_or(Invalid)?;
     let Token::BeginArray = token else {
         return Err(Stop::NotJson);
     };
-    match collect_elements(tokens, unit, depth)? {
+    match collect_elements(tokens, format, depth)? {
         (found, End::Text) => Ok(found),
         // The bracket behind the text would be left over.
         (_, End::Bracket) => Err(Stop::NotJson),
     }
 }
 
-fn read_document(tokens: &mut Tokens<'_>, unit: Unit, depth: usize) -> Result<Found, Stop>
+fn read_document(tokens: &mut Tokens<'_>, format: Format, depth: usize) -> Result<Found, Stop>
     ensures found { IfOk result (λ found. TakesValue depth tokens.old.reader tokens.new.reader
-        (λ d. found ≡ doc_of_elements unit (elements_of d))) }
+        (λ d. found ≡ doc_of_elements format (elements_of d))) }
     ensures refused { IsNotJson result → data_at depth tokens.old.reader ≡ None }
 {
     match next_beginning(&mut tokens.reader)? {
-        Beginning::Object => read_object(tokens, unit, depth),
-        Beginning::Array => read_elements(tokens, unit, depth),
+        Beginning::Object => read_object(tokens, format, depth),
+        Beginning::Array => read_elements(tokens, format, depth),
         _ => Ok(Err(ReadError::NotTrace)),
     }
 }
 
 /// What the last member `traceEvents` of an object has, whose bracket was taken.
-fn read_object(tokens: &mut Tokens<'_>, unit: Unit, depth: usize) -> Result<Found, Stop>
+fn read_object(tokens: &mut Tokens<'_>, format: Format, depth: usize) -> Result<Found, Stop>
     ensures found { IfOk result (λ found. TakesObject depth tokens.old.reader tokens.new.reader
-        (λ ms. found ≡ doc_of_elements unit (elements_of (object ms)))) }
+        (λ ms. found ≡ doc_of_elements format (elements_of (object ms)))) }
     ensures refused { IsNotJson result
         → data_at depth (spec.begin_object ∷ tokens.old.reader) ≡ None }
 {
@@ -95,7 +94,7 @@ fn read_object(tokens: &mut Tokens<'_>, unit: Unit, depth: usize) -> Result<Foun
     let mut found = Err(ReadError::NotTrace);
     'members: while let Some(name) = tokens.reader.next_key()? {
         if name == "traceEvents" {
-            found = read_trace_events(tokens, unit, depth - 1)?;
+            found = read_trace_events(tokens, format, depth - 1)?;
         } else {
             pass_value(&mut tokens.reader, depth - 1)?;
         }
@@ -103,9 +102,9 @@ fn read_object(tokens: &mut Tokens<'_>, unit: Unit, depth: usize) -> Result<Foun
     Ok(found)
 }
 
-fn read_trace_events(tokens: &mut Tokens<'_>, unit: Unit, depth: usize) -> Result<Found, Stop>
+fn read_trace_events(tokens: &mut Tokens<'_>, format: Format, depth: usize) -> Result<Found, Stop>
     ensures found { IfOk result (λ found. TakesValue depth tokens.old.reader tokens.new.reader
-        (λ d. found ≡ doc_of_elements unit (as_array d))) }
+        (λ d. found ≡ doc_of_elements format (as_array d))) }
     ensures refused { IsNotJson result → data_at depth tokens.old.reader ≡ None }
 {
     match next_beginning(&mut tokens.reader)? {
@@ -113,19 +112,19 @@ fn read_trace_events(tokens: &mut Tokens<'_>, unit: Unit, depth: usize) -> Resul
             pass_object(&mut tokens.reader, depth)?;
             Ok(Err(ReadError::NotTrace))
         }
-        Beginning::Array => read_elements(tokens, unit, depth),
+        Beginning::Array => read_elements(tokens, format, depth),
         _ => Ok(Err(ReadError::NotTrace)),
     }
 }
 
 /// The rest of an array whose bracket was taken, with the bracket that closes it.
-fn read_elements(tokens: &mut Tokens<'_>, unit: Unit, depth: usize) -> Result<Found, Stop>
+fn read_elements(tokens: &mut Tokens<'_>, format: Format, depth: usize) -> Result<Found, Stop>
     ensures found { IfOk result (λ found. TakesArray depth tokens.old.reader tokens.new.reader
-        (λ ds. found ≡ doc_of_elements unit (Some ds))) }
+        (λ ds. found ≡ doc_of_elements format (Some ds))) }
     ensures refused { IsNotJson result
         → data_at depth (spec.begin_array ∷ tokens.old.reader) ≡ None }
 {
-    match collect_elements(tokens, unit, depth)? {
+    match collect_elements(tokens, format, depth)? {
         (found, End::Bracket) => Ok(found),
         (_, End::Text) => Err(Stop::NotJson),
     }
@@ -138,9 +137,13 @@ enum End {
 }
 
 /// The rest of an array whose bracket was taken. Past the limit no item is kept, but the text is read on, since it may be no JSON.
-fn collect_elements(tokens: &mut Tokens<'_>, unit: Unit, depth: usize) -> Result<(Found, End), Stop>
+fn collect_elements(
+    tokens: &mut Tokens<'_>,
+    format: Format,
+    depth: usize,
+) -> Result<(Found, End), Stop>
     ensures found { IfOk result (λ end. TakesElements end.1 depth tokens.old.reader
-        tokens.new.reader (λ ds. end.0 ≡ doc_of_elements unit (Some ds))) }
+        tokens.new.reader (λ ds. end.0 ≡ doc_of_elements format (Some ds))) }
     ensures refused { IsNotJson result → (bracket : Bool)
         → data_at depth (spec.begin_array ∷ ended bracket tokens.old.reader) ≡ None }
 {
@@ -154,11 +157,11 @@ fn collect_elements(tokens: &mut Tokens<'_>, unit: Unit, depth: usize) -> Result
         if let Token::EndArray = token {
             return Ok((found_of(items, too_many), End::Bracket));
         }
-        if items.len() == MOST_ITEMS {
+        if items.len() == format.most_elements as usize {
             pass_begun(&mut tokens.reader, token, depth - 1)?;
             too_many = true;
         } else {
-            let item = read_item(tokens, unit, token, depth - 1, &mut fields)?;
+            let item = read_item(tokens, format.unit, token, depth - 1, &mut fields)?;
             items.push(item)?;
         }
     }

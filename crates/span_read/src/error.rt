@@ -10,7 +10,7 @@ use thiserror::Error;
 /// Why a file is refused, each with its number.
 #[derive(Debug, Drop, Error)]
 pub enum ReadError {
-    /// 3: the file has more than 67,108,864 bytes.
+    /// 3: the file has more bytes than the format allows.
     #[error("the file is too large")]
     TooLarge,
     /// 1: no candidate text reads as JSON.
@@ -19,7 +19,7 @@ pub enum ReadError {
     /// 2: the document is neither an array nor an object with an array `traceEvents`.
     #[error("the file is not a trace")]
     NotTrace,
-    /// 4: the trace has more than 4,194,304 items.
+    /// 4: the trace has more elements than the format allows.
     #[error("the trace has too many items")]
     TooMany,
     /// 31: memory ran out.

@@ -8,6 +8,7 @@ mod element;
 mod error;
 mod fields;
 mod file;
+mod format;
 pub mod laws;
 mod phase;
 mod recent;
@@ -18,6 +19,7 @@ mod value_fields;
 pub use element::item_of;
 pub use error::ReadError;
 pub use file::{read_items, read_items_in};
+pub use format::Format;
 pub use span_event::{
     ArgValue, Args, BoxedId, Event, Fault, Field, IdKey, Item, ItemFault, Items, Phase, Reach,
     Text, Unit, merge_args,

@@ -1,7 +1,7 @@
-//! What no text of a trace shows: the item of a value, and the copy of an event. The rest is shown by cases of `example_ledger`, by those
+//! What no text of a trace shows: the item of a value, the copy of an event, and other bounds. The rest is shown by cases of `example_ledger`, by those
 //! of the program, and by tests/many_files.
 use serde_json::Value;
-use span_read::{Event, Item, Unit, item_of, read_items_in};
+use span_read::{Event, Format, Item, Unit, item_of, read_items_in};
 use std::alloc::{AllocError, AllocGlobal, Global};
 use std::process::Abort;
 use std::test::Fail;
@@ -38,7 +38,7 @@ fn agrees(rt: &(impl Abort + AllocGlobal), unit: Unit, text: &str) -> Result<(),
     let by_value = shown(alloc, Some(&item));
     drop(item);
     let file = format!(in alloc; "[{text}]")?;
-    let items = read_items_in(alloc, unit, file.as_bytes())?;
+    let items = read_items_in(alloc, Format::of(unit), file.as_bytes())?;
     assert!(rt; !items.is_empty() && items.len() == 1 && items.get(1).is_none());
     let by_text = shown(alloc, items.get(0));
     drop(items);
@@ -77,5 +77,27 @@ fn a_copy_outlives_its_event(rt: HostRuntime) -> Result<(), Fail> {
         drop(copy);
         assert_eq!(rt; copied?.as_str(), wanted?.as_str());
     }
+    Ok(())
+}
+
+// How many items a file has that may have nine bytes and three elements, or the number that refuses it.
+fn count_of(alloc: Global, text: &str) -> Result<usize, u16> {
+    let format = Format {
+        unit: Unit::Microseconds,
+        most_bytes: 9,
+        most_elements: 3,
+    };
+    match read_items_in(alloc, format, text.as_bytes()) {
+        Ok(items) => Ok(items.len()),
+        Err(error) => Err(error.code()),
+    }
+}
+
+#[test]
+fn a_file_is_held_against_the_bounds_of_its_format(rt: HostRuntime) -> Result<(), Fail> {
+    let alloc = rt.alloc();
+    assert_eq!(rt; count_of(alloc, "[1,2,3]  "), Ok(3));
+    assert_eq!(rt; count_of(alloc, "[1,2,3,4]"), Err(4));
+    assert_eq!(rt; count_of(alloc, "[1,2,3,4] "), Err(3));
     Ok(())
 }

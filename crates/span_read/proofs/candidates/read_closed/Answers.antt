@@ -8,4 +8,4 @@ returns-then-not-closes_array c = λ other.
     let text = c.args.text.now in
     let opens : opens_array text ≡ true = search rules in
     let unclosed : closes_array text ≡ false = search rules in
-    ap (doc_of_document c.args.unit) (sym (read-unclosed text opens unclosed))
+    ap (doc_of_document c.args.format) (sym (read-unclosed text opens unclosed))

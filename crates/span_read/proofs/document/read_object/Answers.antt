@@ -25,7 +25,7 @@ members-preserved-then-eq c =
     let taken = c.in_ok-found.ensures.found in
     let same : c.in-Some.name.now ≡ codes "traceEvents" = search rules in
     members_turn c.args.depth (omega arith) _ c.args.tokens.now.reader c.members.tokens.reader c.members.invariant _ _ _ _ named
-    (taken.0, taken.1, taken.2 ∙ ap (doc_of_elements c.args.unit) (sym (elements_of-put c.in-Some.name.now taken.0 c.members.invariant.before same)))
+    (taken.0, taken.1, taken.2 ∙ ap (doc_of_elements c.args.format) (sym (elements_of-put c.in-Some.name.now taken.0 c.members.invariant.before same)))
 
 pub members-smaller : goal.members-smaller
 members-smaller c =
@@ -38,7 +38,7 @@ members-preserved c =
     let taken = c.in_ok-pass_value.ensures.taken in
     let apart : c.in-Some.name.now ≡ codes "traceEvents" → ⊥ = search rules in
     members_turn c.args.depth (omega arith) _ c.args.tokens.now.reader c.members.tokens.reader c.members.invariant _ _ _ _ named
-    (taken.0, taken.1, c.members.invariant.holds ∙ ap (doc_of_elements c.args.unit) (sym (elements_of-put_other c.in-Some.name.now taken.0 c.members.invariant.before apart)))
+    (taken.0, taken.1, c.members.invariant.holds ∙ ap (doc_of_elements c.args.format) (sym (elements_of-put_other c.in-Some.name.now taken.0 c.members.invariant.before apart)))
 
 pub returns-in_err-found-clause-refused : goal.returns-in_err-found-clause-refused
 returns-in_err-found-clause-refused c = λ no.

@@ -5,7 +5,7 @@ use Rattle.span_read.proofs.document.read_object.Given as goal
 
 -- the last of the members so far counts
 abbrev pub invariant-members : goal.invariant-members
-invariant-members l = MembersSoFar (l.depth - 1) l.initial.tokens.reader l.tokens.reader (λ ms. l.found ≡ doc_of_elements l.unit (elements_of (object ms)))
+invariant-members l = MembersSoFar (l.depth - 1) l.initial.tokens.reader l.tokens.reader (λ ms. l.found ≡ doc_of_elements l.format (elements_of (object ms)))
 
 abbrev pub decreases-members : goal.decreases-members
 decreases-members l = length l.tokens.reader
