@@ -3,7 +3,7 @@
 #![tactic(auto)]
 
 use span_collect::{
-    Answer, Collected, CountRow, Input, Ledger, Query, Reply, Settings, Text, Unit, Writer,
+    Answer, Collected, CountRow, Format, Input, Ledger, Query, Reply, Settings, Text, Unit, Writer,
     run_to_ledger,
 };
 use std::alloc::{AllocError, Global};
@@ -18,12 +18,14 @@ const SERVER: &str = r#"[{"ph":"M","name":"process_name","pid":1,"args":{"name":
 const CLIENT: &str = r#"[{"ph":"M","name":"process_name","pid":2,"args":{"name":"client"}},
     {"ph":"X","name":"request","ts":-5,"dur":110,"pid":2,"tid":7}]"#;
 
-const SETTINGS: Settings = Settings {
-    unit: Unit::Microseconds,
-    limit: 1000,
-    seal: false,
-    strict: false,
-};
+fn settings() -> Settings {
+    Settings {
+        format: Format::of(Unit::Microseconds),
+        limit: 1000,
+        seal: false,
+        strict: false,
+    }
+}
 
 fn input(alloc: Global, name: &str, text: &str) -> Result<Input, AllocError> {
     let mut bytes = Vec::new(alloc);
@@ -82,7 +84,7 @@ fn main(rt: HostRuntime) -> Result<ExitCode, io::Error> {
     ];
     let asks = [Query::Counts, Query::Counts];
     let out = &mut Writer::new(rt.stdout());
-    let collected = match run_to_ledger(&rt, alloc, &files, &asks, &SETTINGS, out) {
+    let collected = match run_to_ledger(&rt, alloc, &files, &asks, &settings(), out) {
         Ok(collected) => collected,
         Err(error) => {
             eprintln!(rt; "{error}")?;

@@ -3,7 +3,7 @@ ghost use Rattle.std.specs.Prelude.{All, IfOk};
 ghost use Rattle.span_event.specs.Item.{IsGoodItem};
 
 use span_event::{Event, Item, Items, Unit};
-use span_read::{ReadError, read_items_in};
+use span_read::{Format, ReadError, read_items_in};
 use std::alloc::{AllocError, Global};
 use std::io;
 use thiserror::Error;
@@ -62,7 +62,7 @@ pub(crate) fn items_of(alloc: Global, unit: Unit, text: &str) -> Result<Items, F
     ensures { IfOk result (All IsGoodItem) }
 {
     let trace = format!(in alloc; "[{text}]")?;
-    match read_items_in(alloc, unit, trace.as_bytes()) {
+    match read_items_in(alloc, Format::of(unit), trace.as_bytes()) {
         Ok(items) => Ok(items),
         Err(ReadError::Memory) => Err(Fault::Memory),
         Err(_) => Err(Fault::Line("an element of a trace is meant")),

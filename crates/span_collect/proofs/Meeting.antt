@@ -1,7 +1,7 @@
 -- What the main seat has met, and the account of the journal that it closes.
 use Rattle.std.proofs.{Common.{◌≡◌, ℕ, ◌≤◌, List, [], ◌∷◌, ◌++◌, length, map, take, Option, Some, None, Ok, Err, Contains, refl, sym, subst, ap, ap₂, ◌∙◌, append-nil, length-append, arith, inl, inr}, lemmas.{List.Elements.filter_map-append, Slice.Zip.all_zipped_more}}
 use Rattle.span_share.proofs.CallersLists.{Contains-here, Contains-later}
-use Rattle.span_collect.specs.{Unit, doc, Entry, Query, Cause, Memory, Full, Busy, BeginsWith, ShareId, Seated, IsSeatOf, Gathers, Account.{Document, IsCause, EndsAs, EachEndsAs, IsAsked, StopsAsking, asking, caller_named, callers_named, operations}, Work.{HasRecorded, IsWorked, HasMet}, declared.{files.{FileEnd.{FileEnd, TheVariants.{Read, Refused, Stopped, NotStarted}}, Input.Input}, queries.Asked.Asked}}
+use Rattle.span_collect.specs.{Format, doc, Entry, Query, Cause, Memory, Full, Busy, BeginsWith, ShareId, Seated, IsSeatOf, Gathers, Account.{Document, IsCause, EndsAs, EachEndsAs, IsAsked, StopsAsking, asking, caller_named, callers_named, operations}, Work.{HasRecorded, IsWorked, HasMet}, declared.{files.{FileEnd.{FileEnd, TheVariants.{Read, Refused, Stopped, NotStarted}}, Input.Input}, queries.Asked.Asked}}
 
 pub BeginsWith-length : (new old : List Entry) → BeginsWith new old → length old ≤ length new
 BeginsWith-length new old begins = omega (arith, ap length begins.1, length-append old begins.0)
@@ -36,14 +36,14 @@ later-named P (Refused own code) ends all caller at = all caller (Contains-later
 later-named P (Stopped own done cause) ends all caller at = all caller (Contains-later own (callers_named ends) caller at)
 later-named P NotStarted ends all caller at = all caller at
 
-pub EachEndsAs-later : (unit : Unit) (limit : ℕ) (old new : List Entry) (files : List Input) (ends : List FileEnd) → length old ≤ length new → ((caller : ℕ) → Contains (callers_named ends) caller → operations new caller ≡ operations old caller) →
-    EachEndsAs unit old limit files ends → EachEndsAs unit new limit files ends
-EachEndsAs-later unit limit old new [] [] grows same ended = tt
-EachEndsAs-later unit limit old new [] (end ∷ ends) grows same ended = ended
-EachEndsAs-later unit limit old new (file ∷ files) [] grows same ended = ended
-EachEndsAs-later unit limit old new (file ∷ files) (end ∷ ends) grows same ended = (
-  EndsAs-later limit old new (doc unit file.bytes.items) end grows (first-named (λ c. operations new c ≡ operations old c) end ends same) ended.0,
-  EachEndsAs-later unit limit old new files ends grows (later-named (λ c. operations new c ≡ operations old c) end ends same) ended.1,
+pub EachEndsAs-later : (format : Format) (limit : ℕ) (old new : List Entry) (files : List Input) (ends : List FileEnd) → length old ≤ length new → ((caller : ℕ) → Contains (callers_named ends) caller → operations new caller ≡ operations old caller) →
+    EachEndsAs format old limit files ends → EachEndsAs format new limit files ends
+EachEndsAs-later format limit old new [] [] grows same ended = tt
+EachEndsAs-later format limit old new [] (end ∷ ends) grows same ended = ended
+EachEndsAs-later format limit old new (file ∷ files) [] grows same ended = ended
+EachEndsAs-later format limit old new (file ∷ files) (end ∷ ends) grows same ended = (
+  EndsAs-later limit old new (doc format file.bytes.items) end grows (first-named (λ c. operations new c ≡ operations old c) end ends same) ended.0,
+  EachEndsAs-later format limit old new files ends grows (later-named (λ c. operations new c ≡ operations old c) end ends same) ended.1,
 )
 
 -- the queries that were asked stay so in a longer journal that has the same operations of caller 0
@@ -64,27 +64,27 @@ callers_named-end (Stopped own done cause) caller at = let same : own ≡ caller
 callers_named-end NotStarted caller at = absurd cc
 
 -- what a seat that owns 0 has asked, before it meets anybody
-pub HasMet-asked : (unit : Unit) (share : ShareId) (asks : List Query) (done : ℕ) (cause : Option Cause) (asked : Asked) (seat : Seated) → HasRecorded share (asking (take done asks)) seat → seat.number ≡ 0 → asked ≡ record { done = done; cause = cause } →
-    StopsAsking seat.seen share.terms.limit asks done cause → HasMet unit share [] asks [] asked seat
-HasMet-asked unit share asks done cause asked seat has first is stop = subst (λ a. HasMet unit share [] asks [] a seat) (sym is) (record {
+pub HasMet-asked : (format : Format) (share : ShareId) (asks : List Query) (done : ℕ) (cause : Option Cause) (asked : Asked) (seat : Seated) → HasRecorded share (asking (take done asks)) seat → seat.number ≡ 0 → asked ≡ record { done = done; cause = cause } →
+    StopsAsking seat.seen share.terms.limit asks done cause → HasMet format share [] asks [] asked seat
+HasMet-asked format share asks done cause asked seat has first is stop = subst (λ a. HasMet format share [] asks [] a seat) (sym is) (record {
   sound = has.sound;
   owned = has.alone ∙ ap (λ n. n ∷ []) first;
   ended = tt;
   queries = record { recorded = ap (operations seat.seen) (sym first) ∙ has.recorded; stop = stop };
 })
 
-module _ (unit : Unit) (share : ShareId) (files : List Input) (asks : List Query) (ends : List FileEnd) (asked : Asked) (main : Seated) (met : HasMet unit share files asks ends asked main) (file : Input) where
+module _ (format : Format) (share : ShareId) (files : List Input) (asks : List Query) (ends : List FileEnd) (asked : Asked) (main : Seated) (met : HasMet format share files asks ends asked main) (file : Input) where
   -- one worker more is met
-  pub HasMet-joined : (end : FileEnd) (worker after : Seated) → IsWorked share (doc unit file.bytes.items) end worker → IsSeatOf share after → Gathers main worker after → HasMet unit share (files ++ file ∷ []) asks (ends ++ end ∷ []) asked after
+  pub HasMet-joined : (end : FileEnd) (worker after : Seated) → IsWorked share (doc format file.bytes.items) end worker → IsSeatOf share after → Gathers main worker after → HasMet format share (files ++ file ∷ []) asks (ends ++ end ∷ []) asked after
   HasMet-joined end worker after worked seat gathers = record {
     sound = seat;
     owned = gathers.owned
         ∙ ap₂ (λ (a b : List ℕ). a ++ b) met.owned worked.alone
         ∙ ap (λ l. 0 ∷ (callers_named ends ++ l)) (sym (callers_named-end end worker.number worked.named))
         ∙ ap (λ l. 0 ∷ l) (sym (filter_map-append caller_named ends (end ∷ [])));
-    ended = all_zipped_more (λ (f : Input) (e : FileEnd). EndsAs after.seen share.terms.limit (doc unit f.bytes.items) e) files ends file end
-        (EachEndsAs-later unit share.terms.limit main.seen after.seen files ends grows (λ c at. kept c (Contains-later 0 (callers_named ends) c at)) met.ended)
-        (EndsAs-later share.terms.limit worker.seen after.seen (doc unit file.bytes.items) end (BeginsWith-length after.seen worker.seen gathers.seen_other.begins) of_worker worked.ended);
+    ended = all_zipped_more (λ (f : Input) (e : FileEnd). EndsAs after.seen share.terms.limit (doc format f.bytes.items) e) files ends file end
+        (EachEndsAs-later format share.terms.limit main.seen after.seen files ends grows (λ c at. kept c (Contains-later 0 (callers_named ends) c at)) met.ended)
+        (EndsAs-later share.terms.limit worker.seen after.seen (doc format file.bytes.items) end (BeginsWith-length after.seen worker.seen gathers.seen_other.begins) of_worker worked.ended);
     queries = IsAsked-later share.terms.limit main.seen after.seen asks asked grows (kept 0 (Contains-here 0 (callers_named ends))) met.queries;
   }
     where
@@ -101,10 +101,10 @@ module _ (unit : Unit) (share : ShareId) (files : List Input) (asks : List Query
           ap (map (λ (e : Entry). e.op)) (gathers.seen_other.lists c (subst (λ l. Contains l c) (sym worked.alone) (subst (λ n. Contains (worker.number ∷ []) n) own (Contains-here worker.number []))))
 
   -- one file was not started
-  pub HasMet-not_started : HasMet unit share (files ++ file ∷ []) asks (ends ++ NotStarted ∷ []) asked main
+  pub HasMet-not_started : HasMet format share (files ++ file ∷ []) asks (ends ++ NotStarted ∷ []) asked main
   HasMet-not_started = record {
     sound = met.sound;
     owned = met.owned ∙ ap (λ l. 0 ∷ l) (sym (filter_map-append caller_named ends (NotStarted ∷ []) ∙ append-nil (callers_named ends)));
-    ended = all_zipped_more (λ (f : Input) (e : FileEnd). EndsAs main.seen share.terms.limit (doc unit f.bytes.items) e) files ends file NotStarted met.ended tt;
+    ended = all_zipped_more (λ (f : Input) (e : FileEnd). EndsAs main.seen share.terms.limit (doc format f.bytes.items) e) files ends file NotStarted met.ended tt;
     queries = met.queries;
   }

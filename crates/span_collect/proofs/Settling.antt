@@ -2,7 +2,7 @@
 use Rattle.std.specs.Prelude.{sum_by}
 use Rattle.std.proofs.{Common.{◌≡◌, ◌≢◌, ℕ, ◌+◌, ◌≤◌, List, [], ◌∷◌, length, map, take, Some, None, Ok, Err, Option, Contains, refl, sym, subst, ap, ap₂, ◌∙◌, arith, inl, inr}, lemmas.List.{length-map, length-take-le, Sums.sum_by-cons}}
 use Rattle.span_share.proofs.CallersLists.{Contains-here, Contains-later}
-use Rattle.span_collect.specs.{Item, Unit, doc, Entry, Op, One, Ask, Query, IsLegal, Kept, Terms, calls, AreDistinct, caller_of, Account.{Account, Document, EndsAs, EachEndsAs, IsAsked, StopsAsking, asking, callers_named, operations, telling}, Collection.{HasMore, IsClosed, calls_told, told_by}, declared.{files.{FileEnd.{FileEnd, TheVariants.{Read, Refused, Stopped, NotStarted}}, Input.Input}, queries.Asked.Asked, settings.Settings.Settings}}
+use Rattle.span_collect.specs.{Item, Format, doc, Entry, Op, One, Ask, Query, IsLegal, Kept, Terms, calls, AreDistinct, caller_of, Account.{Account, Document, EndsAs, EachEndsAs, IsAsked, StopsAsking, asking, callers_named, operations, telling}, Collection.{HasMore, IsClosed, calls_told, told_by}, declared.{files.{FileEnd.{FileEnd, TheVariants.{Read, Refused, Stopped, NotStarted}}, Input.Input}, queries.Asked.Asked, settings.Settings.Settings}}
 use Rattle.span_collect.proofs.{Counting.{total, total-le, total-all}, Meeting.{BeginsWith-length, EachEndsAs-later, IsAsked-later}}
 
 -- as many entries as operations
@@ -24,12 +24,12 @@ told-one journal limit (Err error) (Stopped caller done cause) ends (inl first, 
 told-one journal limit document (Stopped caller done cause) ends (inr unread, is) = omega (arith, unread.0, calls-length journal caller [] unread.2)
 told-one journal limit document NotStarted ends ended = omega arith
 
-told-total : (unit : Unit) (journal : List Entry) (limit : ℕ) (files : List Input) (ends : List FileEnd) → EachEndsAs unit journal limit files ends → sum_by told_by ends ≡ total (callers_named ends) journal
-told-total unit journal limit [] [] ended = refl
-told-total unit journal limit [] (end ∷ ends) ended = absurd ended
-told-total unit journal limit (file ∷ files) [] ended = absurd ended
-told-total unit journal limit (file ∷ files) (end ∷ ends) ended =
-    sum_by-cons told_by end ends ∙ ap (λ n. told_by end + n) (told-total unit journal limit files ends ended.1) ∙ told-one journal limit (doc unit file.bytes.items) end ends ended.0
+told-total : (format : Format) (journal : List Entry) (limit : ℕ) (files : List Input) (ends : List FileEnd) → EachEndsAs format journal limit files ends → sum_by told_by ends ≡ total (callers_named ends) journal
+told-total format journal limit [] [] ended = refl
+told-total format journal limit [] (end ∷ ends) ended = absurd ended
+told-total format journal limit (file ∷ files) [] ended = absurd ended
+told-total format journal limit (file ∷ files) (end ∷ ends) ended =
+    sum_by-cons told_by end ends ∙ ap (λ n. told_by end + n) (told-total format journal limit files ends ended.1) ∙ told-one journal limit (doc format file.bytes.items) end ends ended.0
 
 asked-total : (journal : List Entry) (limit : ℕ) (asks : List Query) (asked : Asked) → IsAsked journal limit asks asked → asked.done ≡ length (calls caller_of 0 journal)
 asked-total journal limit asks asked is =
@@ -52,9 +52,9 @@ module _ (files : List Input) (asks : List Query) (settings : Settings) (ends : 
   grows : length closed.seat.seen ≤ length ledger.journal
   grows = BeginsWith-length ledger.journal closed.seat.seen closed.closes.seen.begins
 
-  ended : EachEndsAs settings.unit ledger.journal settings.limit files ends
-  ended = subst (λ n. EachEndsAs settings.unit ledger.journal n files ends) limit_is
-      (EachEndsAs-later settings.unit closed.share.terms.limit closed.seat.seen ledger.journal files ends grows (λ c at. kept c (Contains-later 0 (callers_named ends) c at)) closed.met.ended)
+  ended : EachEndsAs settings.format ledger.journal settings.limit files ends
+  ended = subst (λ n. EachEndsAs settings.format ledger.journal n files ends) limit_is
+      (EachEndsAs-later settings.format closed.share.terms.limit closed.seat.seen ledger.journal files ends grows (λ c at. kept c (Contains-later 0 (callers_named ends) c at)) closed.met.ended)
 
   queries : IsAsked ledger.journal settings.limit asks asked
   queries = subst (λ n. IsAsked ledger.journal n asks asked) limit_is
@@ -67,7 +67,7 @@ module _ (files : List Input) (asks : List Query) (settings : Settings) (ends : 
   within = omega (arith, closed.closes.lawful.within, closed.closes.limit, limit_is)
 
   all_calls : calls_told ends asked ≡ total (0 ∷ callers_named ends) ledger.journal
-  all_calls = ap₂ (λ (m n : ℕ). m + n) (asked-total ledger.journal settings.limit asks asked queries) (told-total settings.unit ledger.journal settings.limit files ends ended)
+  all_calls = ap₂ (λ (m n : ℕ). m + n) (asked-total ledger.journal settings.limit asks asked queries) (told-total settings.format ledger.journal settings.limit files ends ended)
 
   -- the calls are no more than the entries, and so within the limit
   pub IsClosed-few : calls_told ends asked ≤ settings.limit

@@ -1,6 +1,6 @@
 -- The account of a collection: how each file ended, what was asked, and what stands in the journal.
 use Rattle.std.specs.{List.AllZip, Prelude.{◌≡◌, ℕ, ◌<◌, ◌≤◌, ◌⊎◌, ⊤, List, [], ◌∷◌, length, map, take, filter_map, All, Contains, Option, Some, None, MatchOption, Result, IsOkAnd, IsErrAnd}}
-use Rattle.span_collect.specs.{Item, Unit, ReadError, doc, code_of, Entry, Op, One, Ask, Query, Cause, Memory, Full, Busy, IsLegal, calls, AreDistinct, caller_of, declared.{files.{FileEnd.{FileEnd, TheVariants.{Read, Refused, Stopped, NotStarted}}, Input.Input}, queries.Asked.Asked, settings.Settings.Settings}}
+use Rattle.span_collect.specs.{Item, Format, ReadError, doc, code_of, Entry, Op, One, Ask, Query, Cause, Memory, Full, Busy, IsLegal, calls, AreDistinct, caller_of, declared.{files.{FileEnd.{FileEnd, TheVariants.{Read, Refused, Stopped, NotStarted}}, Input.Input}, queries.Asked.Asked, settings.Settings.Settings}}
 
 -- what a file gives: its items, or why it is refused
 abbrev pub Document : Type 0
@@ -47,8 +47,8 @@ EndsAs journal limit document (Stopped caller done cause) = (HasFirst journal do
 EndsAs journal limit document NotStarted = ⊤
 
 -- each file ended as its end says, and there is one end for each, in order
-abbrev pub EachEndsAs : Unit → List Entry → ℕ → List Input → List FileEnd → Type 0
-EachEndsAs unit journal limit files ends = AllZip (λ file end. EndsAs journal limit (doc unit file.bytes.items) end) files ends
+abbrev pub EachEndsAs : Format → List Entry → ℕ → List Input → List FileEnd → Type 0
+EachEndsAs format journal limit files ends = AllZip (λ file end. EndsAs journal limit (doc format file.bytes.items) end) files ends
 
 -- the asking ended with all queries, or for a cause before that
 abbrev pub StopsAsking : List Entry → ℕ → List Query → ℕ → Option Cause → Type 0
@@ -74,7 +74,7 @@ callers_named ends = filter_map caller_named ends
 pub record Account (files : List Input) (asks : List Query) (settings : Settings) (ends : List FileEnd) (asked : Asked) (journal : List Entry) : Type 0 where
   pub legal : IsLegal settings.strict journal
   pub within_limit : length journal ≤ settings.limit
-  pub each_file_once_in_order : EachEndsAs settings.unit journal settings.limit files ends
+  pub each_file_once_in_order : EachEndsAs settings.format journal settings.limit files ends
   pub each_query_once_in_order : IsAsked journal settings.limit asks asked
   pub distinct_callers : AreDistinct (0 ∷ callers_named ends)
   pub nothing_else : All (λ entry. Contains (0 ∷ callers_named ends) entry.caller) journal

@@ -30,7 +30,7 @@ pub record HasMore (files : List Input) (asks : List Query) (settings : Settings
   pub asked : Asked
   pub legal : IsLegal settings.strict journal
   pub within_limit : length journal ≤ settings.limit
-  pub each_file_once_in_order : EachEndsAs settings.unit journal settings.limit files ends
+  pub each_file_once_in_order : EachEndsAs settings.format journal settings.limit files ends
   pub each_query_once_in_order : IsAsked journal settings.limit asks asked
   pub distinct_callers : AreDistinct (0 ∷ callers_named ends)
   pub entries_are : entries ≡ length journal
@@ -47,6 +47,6 @@ IsRefused files asks settings (Unaccounted entries calls) = HasMore files asks s
 pub record IsClosed (files : List Input) (asks : List Query) (settings : Settings) (ends : List FileEnd) (asked : Asked) (ledger : Kept) : Type 0 where
   pub share : ShareId
   pub seat : Seated
-  pub met : HasMet settings.unit share files asks ends asked seat
+  pub met : HasMet settings.format share files asks ends asked seat
   pub closes : Closes share seat ledger
   pub terms_are : share.terms ≡ record { limit = settings.limit; strict = settings.strict }

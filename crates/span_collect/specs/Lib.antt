@@ -9,7 +9,7 @@ pub mod Words
 pub mod Work
 unfoldable pub use Rattle.span_event.specs.Fault.{fault_of}
 pub use Rattle.span_event.specs.{Fault.{number_of, word_of}, Item.IsGoodItem, declared.{event.Event.Event, fault.Fault.TheVariants.{FileCount, NotStarted, Unaccounted}, item.Item.{Item, TheVariants.{Bad, Good, Other}}, unit.Unit.Unit}}
-pub use Rattle.span_read.specs.{Document.{doc, most_items}, ReadError.code_of, declared.error.ReadError.ReadError}
+pub use Rattle.span_read.specs.{Document.doc, ReadError.code_of, declared.{error.ReadError.ReadError, format.Format.Format}}
 pub use Rattle.span_keyed_tracks.specs.Keyed.{Keyed, entries_in, kept_at, steps_at}
 pub use Rattle.span_track.specs.Nesting.{latest_time}
 unfoldable pub use Rattle.span_journal.specs.Answers.{answer_to}

@@ -1,7 +1,7 @@
 -- What a run does.
 use Rattle.std.specs.{List.list_any, Option.is_some, Prelude.{◌≡◌, ℕ, ◌<◌, ◌≤◌, Bool, true, false, ◌||◌, if◌then◌else◌, ⊤, List, [], ◌∷◌, filter, length, map, take, Ok, Err}}
 use Rattle.span_event.specs.declared.fault.Fault.TheVariants.{Memory as MemoryFault, Output as OutputFault}
-use Rattle.span_collect.specs.{FileCount as FileCountFault, Unaccounted as UnaccountedFault, number_of, Unit, doc, code_of, Entry, Query, sequential, SinkState, TakesBytes, Fails, Account.{Document, telling}, Collection.{AreNoneOrTooMany, HasMore}, Seals.SealedAccount, declared.{files.{FileEnd.{FileEnd, TheVariants.{Read, Refused, Stopped, NotStarted}}, Input.Input}, queries.Asked.Asked, runs.{RunEnd.RunEnd, RunError.{RunError, TheVariants.{FileCount, Memory, Unaccounted, Output}}}, sealing.Sealing.Sealing, settings.Settings.Settings}}
+use Rattle.span_collect.specs.{FileCount as FileCountFault, Unaccounted as UnaccountedFault, number_of, Format, doc, code_of, Entry, Query, sequential, SinkState, TakesBytes, Fails, Account.{Document, telling}, Collection.{AreNoneOrTooMany, HasMore}, Seals.SealedAccount, declared.{files.{FileEnd.{FileEnd, TheVariants.{Read, Refused, Stopped, NotStarted}}, Input.Input}, queries.Asked.Asked, runs.{RunEnd.RunEnd, RunError.{RunError, TheVariants.{FileCount, Memory, Unaccounted, Output}}}, sealing.Sealing.Sealing, settings.Settings.Settings}}
 
 abbrev pub run_code : RunError → ℕ
 run_code FileCount = number_of FileCountFault
@@ -80,10 +80,10 @@ end_by caller (Ok items) = Read caller (length items)
 end_by caller (Err error) = Refused caller (code_of error)
 
 -- the text of a file that caller 1 alone tells to an empty ledger was written
-abbrev pub TakesTextOf : TextOf → Unit → Bool → Input → SinkState → SinkState → Type 0
-TakesTextOf text unit strict file old new = let document = doc unit file.bytes.items in TakesBytes old new (text (end_by 1 document ∷ []) (journal_by strict 1 document))
+abbrev pub TakesTextOf : TextOf → Format → Bool → Input → SinkState → SinkState → Type 0
+TakesTextOf text format strict file old new = let document = doc format file.bytes.items in TakesBytes old new (text (end_by 1 document ∷ []) (journal_by strict 1 document))
 
 -- where one file is given, no query and no wish to seal, and the status isn't 2, the text of that file was written
 abbrev pub WritesOneFile : TextOf → List Input → List Query → Settings → ℕ → SinkState → SinkState → Type 0
 WritesOneFile text files asks settings status old new =
-    status < 2 → settings.seal ≡ false → (file : Input) → files ≡ file ∷ [] → asks ≡ [] → TakesTextOf text settings.unit settings.strict file old new
+    status < 2 → settings.seal ≡ false → (file : Input) → files ≡ file ∷ [] → asks ≡ [] → TakesTextOf text settings.format settings.strict file old new

@@ -1,6 +1,6 @@
 -- What the seats of workers and the main seat stand for.
 use Rattle.std.specs.{Global.Vec, Prelude.{◌≡◌, ◌^◌, ◌<◌, ◌≤◌, List, [], ◌∷◌, length, All, Option, Some, IfSome, vec_capacity}}
-use Rattle.span_collect.specs.{Unit, Op, Query, ShareId, Seated, IsSeatOf, Account.{Document, EndsAs, EachEndsAs, IsAsked, caller_named, callers_named, operations}, declared.{files.{FileEnd.FileEnd, Input.Input}, queries.Asked.Asked, workers.Worker.{Worker, TheVariants.{Thread, Here}}}}
+use Rattle.span_collect.specs.{Format, Op, Query, ShareId, Seated, IsSeatOf, Account.{Document, EndsAs, EachEndsAs, IsAsked, caller_named, callers_named, operations}, declared.{files.{FileEnd.FileEnd, Input.Input}, queries.Asked.Asked, workers.Worker.{Worker, TheVariants.{Thread, Here}}}}
 
 -- a seat that owns one number, under which just these operations are recorded
 pub record HasRecorded (share : ShareId) (ops : List Op) (seat : Seated) : Type 0 where
@@ -31,13 +31,13 @@ pub record IsWorked (share : ShareId) (document : Document) (end : FileEnd) (sea
   pub ended : EndsAs seat.seen share.terms.limit document end
 
 -- the worker of a file: a thread that promises to have worked on it, or a new seat
-abbrev pub IsWorkerOf : Unit → ShareId → Input → Worker → Type 0
-IsWorkerOf unit share file (Thread handle) = IfSome handle (λ handle. (handle.promise.unit ≡ unit) × (handle.promise.share.value ≡ share) × (handle.promise.file.value ≡ file))
-IsWorkerOf unit share file (Here seat) = IfSome seat (IsNewSeat share)
+abbrev pub IsWorkerOf : Format → ShareId → Input → Worker → Type 0
+IsWorkerOf format share file (Thread handle) = IfSome handle (λ handle. (handle.promise.format ≡ format) × (handle.promise.share.value ≡ share) × (handle.promise.file.value ≡ file))
+IsWorkerOf format share file (Here seat) = IfSome seat (IsNewSeat share)
 
 -- a seat that has asked the queries and has met the workers of these files, whose numbers it owns in the files' order
-pub record HasMet (unit : Unit) (share : ShareId) (files : List Input) (asks : List Query) (ends : List FileEnd) (asked : Asked) (seat : Seated) : Type 0 where
+pub record HasMet (format : Format) (share : ShareId) (files : List Input) (asks : List Query) (ends : List FileEnd) (asked : Asked) (seat : Seated) : Type 0 where
   pub sound : IsSeatOf share seat
   pub owned : seat.owned ≡ 0 ∷ callers_named ends
-  pub ended : EachEndsAs unit seat.seen share.terms.limit files ends
+  pub ended : EachEndsAs format seat.seen share.terms.limit files ends
   pub queries : IsAsked seat.seen share.terms.limit asks asked

@@ -59,8 +59,9 @@ impl CollectError {
     }
 }
 
-/// Reads 1 to 64 files and tells their items to one ledger of the settings' unit, limit and strictness, with one worker for each file, in threads. The
-/// queries are asked while the workers run. Waits until all are done; then the open spans are sealed, if the settings want it.
+/// Reads 1 to 64 files in the settings' format, and tells their items to one ledger of the settings' limit and strictness, with one
+/// worker for each file, in threads. The queries are asked while the workers run. Waits until all are done; then the open spans are
+/// sealed, if the settings want it.
 /// Where no two files have a process or a key in common, and none was cut, the answers to each file's items are those that they get
 /// where the files are read one after another.
 ///
@@ -113,7 +114,7 @@ fn collect_unsettled<G: Gate, R: Threads + Wait + RandomSource + Sync>(
     ensures small { settings.limit < 2 ^ 32 }
 {
     let Settings {
-        unit,
+        format,
         limit,
         strict,
         ..
@@ -122,7 +123,7 @@ fn collect_unsettled<G: Gate, R: Threads + Wait + RandomSource + Sync>(
     let ends = Vec::with_capacity(alloc, files.len())?;
     let seats = enrol_all(rt, alloc, &share, &mut main, files.len())?;
     let (asked, main, files) = run_workers(
-        rt, alloc, &share, gate, unit, files, asks, seats, main, ends,
+        rt, alloc, &share, gate, format, files, asks, seats, main, ends,
     );
     let (ledger, _) = share.close(rt, main);
     Ok(Outcome {

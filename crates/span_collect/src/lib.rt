@@ -34,5 +34,6 @@ pub use span_ledger::{
     FlowRow, FlowTotals, IdKey, InstantRow, Item, ItemFault, Ledger, NamedSpan, Phase, ProcessRows,
     Reach, SeriesKey, SeriesRow, SeriesTotals, Text, ThreadRows,
 };
+pub use span_read::Format;
 pub use span_report::{Sink, SinkFault, WriteFault, Writer};
 pub use words::{fault_word, numbered_text};

@@ -1,6 +1,6 @@
 //! What was asked while the files were told.
 ghost use Rattle.std.specs.Prelude.{◌≡◌, ◌^◌, ◌<◌, []};
-ghost use Rattle.span_collect.specs.{Unit, Work.{IsNewSeat, HasMet}};
+ghost use Rattle.span_collect.specs.{Format, Work.{IsNewSeat, HasMet}};
 
 use crate::gate::Gate;
 use span_journal::{Cause, Query};
@@ -30,7 +30,7 @@ pub(crate) fn ask_all<G: Gate, R: Wait>(
     requires new { IsNewSeat share.now seat.old }
     requires first { seat.old.number ≡ 0 }
     requires small { share.now.terms.limit < 2 ^ 32 }
-    ensures { (unit : Unit) → HasMet unit share.now [] asks.now [] result seat.new }
+    ensures { (format : Format) → HasMet format share.now [] asks.now [] result seat.new }
 {
     let mut done: u32 = 0;
     for query in asks {

@@ -88,17 +88,17 @@ pub fn run<O: Sink, R: Threads + Wait + RandomSource + Sync>(
     settings: &Settings,
     out: &mut O,
 ) -> Result<RunEnd, RunError>
-    ensures run { IfOk result (λ run. IsRunOf (of_journal (report_of settings.now.unit)) files.now
+    ensures run { IfOk result (λ run. IsRunOf (of_journal (report_of settings.now.format.unit)) files.now
         asks.now settings.now run (O.state out.old) (O.state out.new)) }
-    ensures one_file { IfOk result (λ run. WritesOneFile (of_journal (report_of settings.now.unit))
+    ensures one_file { IfOk result (λ run. WritesOneFile (of_journal (report_of settings.now.format.unit))
         files.now asks.now settings.now run.status (O.state out.old) (O.state out.new)) }
-    ensures in_turn { IfOk result (λ run. WritesAsInTurn (of_journal (report_of settings.now.unit))
+    ensures in_turn { IfOk result (λ run. WritesAsInTurn (of_journal (report_of settings.now.format.unit))
         files.now asks.now settings.now run.status (O.state out.old) (O.state out.new)) }
     ensures count { (result ≡ Err RunError.FileCount) ↔ AreNoneOrTooMany files.now }
-    ensures error { IfErr result (λ error. RunLeaves (of_journal (report_of settings.now.unit))
+    ensures error { IfErr result (λ error. RunLeaves (of_journal (report_of settings.now.format.unit))
         error files.now asks.now settings.now (O.state out.old) (O.state out.new)) }
     ensures error_in_turn { IfErr result (λ error.
-        FailsAsInTurn (of_journal (report_of settings.now.unit)) error files.now asks.now
+        FailsAsInTurn (of_journal (report_of settings.now.format.unit)) error files.now asks.now
         settings.now (O.state out.old) (O.state out.new)) }
 {
     let collected = run_to_ledger(rt, alloc, files, asks, settings, out)?;
@@ -114,19 +114,19 @@ pub fn run_to_ledger<O: Sink, R: Threads + Wait + RandomSource + Sync>(
     settings: &Settings,
     out: &mut O,
 ) -> Result<Collected, RunError>
-    ensures run { IfOk result (λ collected. IsRunOf (of_journal (report_of settings.now.unit))
+    ensures run { IfOk result (λ collected. IsRunOf (of_journal (report_of settings.now.format.unit))
         files.now asks.now settings.now collected.end (O.state out.old) (O.state out.new)) }
     ensures one_file { IfOk result (λ collected.
-        WritesOneFile (of_journal (report_of settings.now.unit)) files.now asks.now settings.now
+        WritesOneFile (of_journal (report_of settings.now.format.unit)) files.now asks.now settings.now
         collected.end.status (O.state out.old) (O.state out.new)) }
     ensures in_turn { IfOk result (λ collected.
-        WritesAsInTurn (of_journal (report_of settings.now.unit)) files.now asks.now settings.now
+        WritesAsInTurn (of_journal (report_of settings.now.format.unit)) files.now asks.now settings.now
         collected.end.status (O.state out.old) (O.state out.new)) }
     ensures count { (result ≡ Err RunError.FileCount) ↔ AreNoneOrTooMany files.now }
-    ensures error { IfErr result (λ error. RunLeaves (of_journal (report_of settings.now.unit))
+    ensures error { IfErr result (λ error. RunLeaves (of_journal (report_of settings.now.format.unit))
         error files.now asks.now settings.now (O.state out.old) (O.state out.new)) }
     ensures error_in_turn { IfErr result (λ error.
-        FailsAsInTurn (of_journal (report_of settings.now.unit)) error files.now asks.now
+        FailsAsInTurn (of_journal (report_of settings.now.format.unit)) error files.now asks.now
         settings.now (O.state out.old) (O.state out.new)) }
     ensures account { IfOk result (λ collected.
         SealedAccount files.now asks.now settings.now collected.end.ends.items collected.end.asked
@@ -135,7 +135,7 @@ pub fn run_to_ledger<O: Sink, R: Threads + Wait + RandomSource + Sync>(
     ensures strict { IfOk result (λ collected. collected.ledger.strict ≡ settings.now.strict) }
     ensures report { IfOk result (λ collected. collected.end.status < 2
         → TakesBytes (O.state out.old) (O.state out.new)
-        (report_of settings.now.unit collected.ledger.journal)) }
+        (report_of settings.now.format.unit collected.ledger.journal)) }
 {
     let collected = match collect_to_ledger(rt, alloc, files, asks, settings) {
         Ok(collected) => collected,
@@ -144,7 +144,7 @@ pub fn run_to_ledger<O: Sink, R: Threads + Wait + RandomSource + Sync>(
     if collected.end.status == 2 {
         return Ok(collected);
     }
-    match write_report(alloc, settings.unit, &collected.ledger, out) {
+    match write_report(alloc, settings.format.unit, &collected.ledger, out) {
         Ok(()) => Ok(collected),
         Err(WriteFault::Memory) => Err(RunError::Memory),
         Err(WriteFault::Output { written }) => Err(RunError::Output { written }),

@@ -1,14 +1,14 @@
 //! What one worker does: it reads its file, and tells the items one by one.
-ghost use Rattle.std.specs.Prelude.{◌≤◌, length, All, Ok};
-ghost use Rattle.span_collect.specs.{doc, most_items, IsGoodItem, Work.{IsNewSeat, IsWorked}};
+ghost use Rattle.std.specs.Prelude.{◌<◌, ◌^◌, length, All, Ok};
+ghost use Rattle.span_collect.specs.{doc, IsGoodItem, Work.{IsNewSeat, IsWorked}};
 
 use crate::files::{FileEnd, Input};
 use crate::gate::Gate;
 use crate::reading_places::ReadingPlaces;
 use crate::remaining::Remaining;
-use span_event::{Item, Items, Unit};
+use span_event::{Item, Items};
 use span_journal::Cause;
-use span_read::{ReadError, read_items_in};
+use span_read::{Format, ReadError, read_items_in};
 use span_share::{Seat, Share};
 use std::alloc::Global;
 use std::sync::Wait;
@@ -21,17 +21,17 @@ pub(crate) fn work<G: Gate, R: Wait>(
     gate: &G,
     places: &ReadingPlaces,
     worker: u32,
-    unit: Unit,
+    format: Format,
     file: &Input,
     seat: &mut Seat,
 ) -> FileEnd
     requires { IsNewSeat share.now seat.old }
-    ensures { IsWorked share.now (doc unit file.now.bytes.items) result seat.new }
+    ensures { IsWorked share.now (doc format file.now.bytes.items) result seat.new }
 {
     let caller = seat.number();
     gate.read(worker);
     let place = places.take(rt, worker);
-    let read = read_items_in(alloc, unit, &file.bytes);
+    let read = read_items_in(alloc, format, &file.bytes);
     drop(place);
     match read {
         Ok(items) => tell_all(rt, alloc, share, gate, worker, items, seat),
@@ -67,7 +67,7 @@ fn tell_all<G: Gate, R: Wait>(
 ) -> FileEnd
     requires new { IsNewSeat share.now seat.old }
     requires good { All IsGoodItem items }
-    requires few { length items ≤ most_items }
+    requires few { length items < 2 ^ 32 }
     ensures { IsWorked share.now (Ok items) result seat.new }
 {
     let caller = seat.number();

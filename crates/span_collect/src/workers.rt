@@ -7,8 +7,8 @@ use crate::gate::Gate;
 use crate::queries::{Asked, ask_all};
 use crate::reading_places::{PLACES, ReadingPlaces};
 use crate::worker::work;
-use span_event::Unit;
 use span_journal::Query;
+use span_read::Format;
 use span_share::{Seat, Share};
 use std::alloc::{AllocError, Global};
 use std::snapshot::Snapshot;
@@ -24,7 +24,7 @@ const BYTES_OF_ENTRY: usize = 192;
 struct Workplace<'s, G> {
     gate: &'s G,
     places: &'s ReadingPlaces,
-    unit: Unit,
+    format: Format,
     workers: u32,
     // For how many entries room is made.
     expected: u32,
@@ -33,13 +33,13 @@ struct Workplace<'s, G> {
 // What a worker's thread promises of its end and its seat.
 #[derive(Drop)]
 struct Worked {
-    unit: Unit,
+    format: Format,
     share: Snapshot<Share>,
     file: Snapshot<Input>,
 }
 
 impl Promise<(FileEnd, Seat)> for Worked {
-    ghost kept_by = { λ p r. IsWorked p.share.value (doc p.unit p.file.value.bytes.items) r.0 r.1 };
+    ghost kept_by = { λ p r. IsWorked p.share.value (doc p.format p.file.value.bytes.items) r.0 r.1 };
 }
 
 // A seat for each file, in order; none where every number was given.
@@ -75,16 +75,16 @@ fn start_worker<'s, E, G: Gate, R: Wait + Sync>(
     seat: Option<Seat>,
 ) -> Option<PromisedHandle<(FileEnd, Seat), Worked>>
     requires { IfSome seat (IsNewSeat share.now) }
-    ensures unit { IfSome result (λ handle. handle.promise.unit ≡ workplace.now.unit) }
+    ensures format { IfSome result (λ handle. handle.promise.format ≡ workplace.now.format) }
     ensures share { IfSome result (λ handle. handle.promise.share.value ≡ share.now) }
     ensures file { IfSome result (λ handle. handle.promise.file.value ≡ file.now) }
 {
     let seat = seat?;
     let gate = workplace.gate;
     let places = workplace.places;
-    let unit = workplace.unit;
+    let format = workplace.format;
     let promise = Worked {
-        unit,
+        format,
         share: Snapshot::of(share),
         file: Snapshot::of(file),
     };
@@ -94,11 +94,11 @@ fn start_worker<'s, E, G: Gate, R: Wait + Sync>(
             move ||
                 requires { IsNewSeat share.now seat }
                 ensures { IsWorked share.entry.now
-                    (doc unit file.entry.now.bytes.items) result.0 result.1 }
+                    (doc format file.entry.now.bytes.items) result.0 result.1 }
             {
                 let mut seat = seat;
                 let end = work(
-                    rt, alloc, share, gate, places, worker, unit, file, &mut seat,
+                    rt, alloc, share, gate, places, worker, format, file, &mut seat,
                 );
                 (end, seat)
             },
@@ -125,7 +125,7 @@ fn worker_of<'s, E, G: Gate, R: Wait + Sync>(
     seat: Option<Seat>,
 ) -> Worker
     requires { IfSome seat (IsNewSeat share.now) }
-    ensures { IsWorkerOf workplace.now.unit share.now file.now result }
+    ensures { IsWorkerOf workplace.now.format share.now file.now result }
 {
     if place == 0 && asks.is_empty() {
         return Worker::Here(seat);
@@ -143,16 +143,18 @@ fn finish<G: Gate, R: Threads + Wait>(
     file: &Input,
     worker: Worker,
 ) -> Option<(FileEnd, Seat)>
-    requires { IsWorkerOf workplace.now.unit share.now file.now worker }
+    requires { IsWorkerOf workplace.now.format share.now file.now worker }
     ensures { IfSome result (λ worked.
-        IsWorked share.now (doc workplace.now.unit file.now.bytes.items) worked.0 worked.1) }
+        IsWorked share.now (doc workplace.now.format file.now.bytes.items) worked.0 worked.1) }
 {
     match worker {
         Worker::Thread(handle) => Some(handle?.join(rt)),
         Worker::Here(seat) => {
             let mut seat = seat?;
-            let (gate, places, unit) = (workplace.gate, workplace.places, workplace.unit);
-            let end = work(rt, alloc, share, gate, places, place, unit, file, &mut seat);
+            let (gate, places, format) = (workplace.gate, workplace.places, workplace.format);
+            let end = work(
+                rt, alloc, share, gate, places, place, format, file, &mut seat,
+            );
             Some((end, seat))
         }
     }
@@ -173,7 +175,7 @@ fn work_all<'s, E, G: Gate, R: Threads + Wait + Sync>(
     ends: &mut Vec<FileEnd>,
 ) -> Asked
     requires { IsReadyToWork share.now files.now seats.old.items main.old ends.old }
-    ensures met { HasMet workplace.now.unit share.now files.now asks.now
+    ensures met { HasMet workplace.now.format share.now files.now asks.now
         ends.new.items result main.new }
     ensures room { vec_capacity ends.new ≡ vec_capacity ends.old }
 {
@@ -226,7 +228,7 @@ pub(crate) fn run_workers<G: Gate, R: Threads + Wait + Sync>(
     alloc: Global,
     share: &Share,
     gate: &G,
-    unit: Unit,
+    format: Format,
     files: &[Input],
     asks: &[Query],
     seats: Vec<Option<Seat>>,
@@ -234,7 +236,7 @@ pub(crate) fn run_workers<G: Gate, R: Threads + Wait + Sync>(
     ends: Vec<FileEnd>,
 ) -> (Asked, Seat, Vec<FileEnd>)
     requires { IsReadyToWork share.now files.now seats.items main ends }
-    ensures { HasMet unit share.now files.now asks.now result.2.items result.0 result.1 }
+    ensures { HasMet format share.now files.now asks.now result.2.items result.0 result.1 }
 {
     let places = ReadingPlaces::new();
     let reading = &places;
@@ -243,7 +245,7 @@ pub(crate) fn run_workers<G: Gate, R: Threads + Wait + Sync>(
         rt,
         move |scope|
             requires { IsReadyToWork share.now files.now seats.items main ends }
-            ensures { HasMet unit share.entry.now files.entry.now asks.entry.now
+            ensures { HasMet format share.entry.now files.entry.now asks.entry.now
                 result.2.items result.0 result.1 }
         {
             let mut seats = seats;
@@ -252,7 +254,7 @@ pub(crate) fn run_workers<G: Gate, R: Threads + Wait + Sync>(
             let workplace = Workplace {
                 gate,
                 places: reading,
-                unit,
+                format,
                 workers: files.len() as u32,
                 expected: entries_expected(files),
             };

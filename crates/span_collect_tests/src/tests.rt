@@ -3,8 +3,8 @@ mod orders;
 mod steps;
 
 use span_collect::{
-    Asked, Cause, CollectError, FreeGate, Input, Query, Settings, Text, Unit, Writer, collect,
-    numbered_text, run,
+    Asked, Cause, CollectError, Format, FreeGate, Input, Query, Settings, Text, Unit, Writer,
+    collect, collect_to_ledger, numbered_text, run,
 };
 use std::alloc::{AllocError, AllocGlobal, Global};
 use std::process::Abort;
@@ -19,7 +19,7 @@ const ASKS: [Query; 2] = [Query::Counts, Query::Counts];
 // A journal of so many entries, and nothing sealed.
 const fn up_to(limit: u32) -> Settings {
     Settings {
-        unit: Unit::Microseconds,
+        format: Format::of(Unit::Microseconds),
         limit,
         seal: false,
         strict: false,
@@ -89,6 +89,22 @@ fn a_query_may_meet_the_limit(rt: HostRuntime) -> Result<(), Fail> {
             cause: None
         }
     );
+    Ok(())
+}
+
+// Of these files the second has an element too many, and the third a byte.
+#[test]
+fn files_are_held_against_the_bounds_of_the_settings(rt: HostRuntime) -> Result<(), Fail> {
+    let files = files_of(rt.alloc(), &["[1]  ", "[1,2]", "[1]   "])?;
+    let mut settings = up_to(9);
+    settings.format.most_bytes = 5;
+    settings.format.most_elements = 1;
+    let collected = collect_to_ledger(&rt, rt.alloc(), &files, &[], &settings);
+    drop(files);
+    let collected = collected?;
+    let unread = collected.end.unread();
+    drop(collected);
+    assert_eq!(rt; unread, 2);
     Ok(())
 }
 

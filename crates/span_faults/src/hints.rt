@@ -50,7 +50,8 @@ fn hint_of_refusal(bytes: &[u8], code: u16) -> Option<Hint> {
     match Fault::of_code(code)? {
         Fault::NotJson => Some(hint_of_bytes(bytes)),
         Fault::NotTrace => Some(Hint::NotTrace),
-        Fault::TooLarge => Some(Hint::TooLarge),
+        Fault::TooLarge if bytes.len() > u32::MAX as usize => Some(Hint::TooLarge),
+        Fault::TooLarge | Fault::TooMany => Some(Hint::Large),
         _ => None,
     }
 }

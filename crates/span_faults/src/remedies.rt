@@ -70,7 +70,9 @@ pub enum Hint {
     NotTrace,
     /// Nor is it JSON.
     NotJson,
-    /// The file is larger than a file may be.
+    /// The file is larger, or has more elements, than a file may without an option.
+    Large,
+    /// The file is larger than any file may be.
     TooLarge,
     /// So many of the file's elements were refused with this number, and this may help.
     Refused {
@@ -284,7 +286,10 @@ impl fmt::Display for Hint {
             ),
             Hint::NotTrace => write!(f, "it has no events: {TRACE}"),
             Hint::NotJson => write!(f, "it is not JSON: {TRACE}"),
-            Hint::TooLarge => { f.write_str("a file may have 64 MiB: tracebook_split splits it") }
+            Hint::Large => f.write_str(
+                "with --large a file may have 4 GiB, and any number of elements",
+            ),
+            Hint::TooLarge => f.write_str("a file may have 4 GiB: tracebook_split splits it"),
             Hint::Refused {
                 count,
                 items,

@@ -3,7 +3,7 @@ use Rattle.std.specs.{List.{AllByRecursion, AllZip, count_by}, Prelude.{filter, 
 use Rattle.std.proofs.{Common.{◌≡◌, ℕ, suc, ◌+◌, inl, inr, List, [], ◌∷◌, length, take, Bool, true, false, cond, eqb, eqb-true, map, All, Contains, Some, refl, sym, ap, ap₂, subst, ◌∙◌}, lemmas.List.{Elements.All-filter, Sums.{length-filter, sum_by-cons}}}
 use Rattle.span_journal.specs.declared.{kind.Kind.TheVariants.Refused as refused_kind, reply.Reply.Reply as ReplyTo}
 use Rattle.span_ledger.proofs.Taking.{answer_to-query}
-use Rattle.span_collect.specs.{Unit, Answer, Reply, Entry, Op, Kind, Accepted as accepted_kind, Skipped as skipped_kind, Replied as replied_kind, Sealed as sealed_kind, Query, answer_to, is_of, same_kind, reply_to, count_of, count_row, AnswersFollowFromActs, AreDistinct, calls, caller_of, InTurn.AreSeparate, declared.files.Input.Input}
+use Rattle.span_collect.specs.{Format, Answer, Reply, Entry, Op, Kind, Accepted as accepted_kind, Skipped as skipped_kind, Replied as replied_kind, Sealed as sealed_kind, Query, answer_to, is_of, same_kind, reply_to, count_of, count_row, AnswersFollowFromActs, AreDistinct, calls, caller_of, InTurn.AreSeparate, declared.files.Input.Input}
 use Rattle.span_collect.proofs.{Counting.{total, total-length}, InTurn.{Alike.{Contains-place, exchanges-alone}, Exchanges.{exchange_of, exchanges}, Shared.{AllByRecursion-places, IsOfFiles, TellsFiles, entry_is}}}
 
 -- it is all one which of two tests comes first
@@ -69,12 +69,12 @@ count_by-replied kind (x ∷ xs) replied =
     ∙ ap₂ (λ (m n : ℕ). m + n) (ap (λ (a : Answer). cond (is_of kind a) 1 0) replied.0.1) (count_by-replied kind xs replied.1)
     ∙ sym (sum_by-cons each x.op (map (λ (e : Entry). e.op) xs))
 
-module _ (unit : Unit) (answers-follow : AnswersFollowFromActs) (strict : Bool) (files : List Input) (asks : List Query) (separate : AreSeparate unit files) where
-  module _ (cs : List ℕ) (journal : List Entry) (tells_files : TellsFiles unit strict files asks cs journal) where
+module _ (format : Format) (answers-follow : AnswersFollowFromActs) (strict : Bool) (files : List Input) (asks : List Query) (separate : AreSeparate format files) where
+  module _ (cs : List ℕ) (journal : List Entry) (tells_files : TellsFiles format strict files asks cs journal) where
     replied_at : (p : ℕ) (e : Entry) → slice_get journal p ≡ Some e → e.caller ≡ 0 → IsReplied e
-    replied_at p e at own = by (entry_is unit strict files asks cs journal tells_files p e at)
+    replied_at p e at own = by (entry_is format strict files asks cs journal tells_files p e at)
       where
-        by : IsOfFiles unit files cs e → IsReplied e
+        by : IsOfFiles format files cs e → IsReplied e
         by (inl query) = (reply_to (take p journal) query.1, tells_files.legal p e at ∙ ap (answer_to strict (take p journal)) query.2 ∙ answer_to-query strict (take p journal) query.1)
         by (inr of_file) = absurd (tells_files.distinct.0 (subst (Contains cs) own (Contains-place cs of_file.place e.caller of_file.under)))
 
@@ -90,7 +90,7 @@ module _ (unit : Unit) (answers-follow : AnswersFollowFromActs) (strict : Bool) 
     count_by-queries : (kind : Kind) → count_by (λ e. is_of kind e.answer) (calls caller_of 0 journal) ≡ sum_by (λ (op : Op). cond (same_kind kind replied_kind) 1 0) (map (λ e. e.op) (calls caller_of 0 journal))
     count_by-queries kind = count_by-replied kind (calls caller_of 0 journal) (replied-calls journal (AllByRecursion-places (λ e. e.caller ≡ 0 → IsReplied e) journal replied_at))
 
-  module _ (cs ds : List ℕ) (journal other : List Entry) (tells : TellsFiles unit strict files asks cs journal) (tells' : TellsFiles unit strict files asks ds other) where
+  module _ (cs ds : List ℕ) (journal other : List Entry) (tells : TellsFiles format strict files asks cs journal) (tells' : TellsFiles format strict files asks ds other) where
     count_of-told : (kind : Kind) → count_of kind journal ≡ count_of kind other
     count_of-told kind =
         let test : Entry → Bool = λ e. is_of kind e.answer in
@@ -98,7 +98,7 @@ module _ (unit : Unit) (answers-follow : AnswersFollowFromActs) (strict : Bool) 
         let queries : AreAsMany test journal other 0 0 = count_by-queries cs journal tells kind ∙ ap (sum_by each) (tells.asked ∙ sym tells'.asked) ∙ sym (count_by-queries ds other tells' kind) in
         let items = AllZip-files _ _ (AreAsMany test journal other) files cs ds tells.told tells'.told
         (λ place file c d at under under'. count_by-exchanges kind (calls caller_of c journal)
-        ∙ ap (sum_by (λ (x : Op × Answer). cond (is_of kind x.1) 1 0)) (exchanges-alone unit answers-follow strict files asks separate cs journal tells place file c at under ∙ sym (exchanges-alone unit answers-follow strict files asks separate ds other tells' place file d at under'))
+        ∙ ap (sum_by (λ (x : Op × Answer). cond (is_of kind x.1) 1 0)) (exchanges-alone format answers-follow strict files asks separate cs journal tells place file c at under ∙ sym (exchanges-alone format answers-follow strict files asks separate ds other tells' place file d at under'))
         ∙ sym (count_by-exchanges kind (calls caller_of d other))) in
         total-filter test (0 ∷ cs) journal tells.distinct tells.only
         ∙ total-zip test (0 ∷ cs) (0 ∷ ds) journal other (queries, items)

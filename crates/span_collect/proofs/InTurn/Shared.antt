@@ -2,13 +2,13 @@
 -- separate files are silent on each other's topics.
 use Rattle.std.specs.{List.{AllByRecursion, AllZip, cons_option}, Prelude.{filter_map, slice_get}}
 use Rattle.std.proofs.{Common.{◌≡◌, ◌≢◌, ℕ, zero, suc, ◌⊎◌, inl, inr, List, [], ◌∷◌, Bool, true, false, cond, eqb, eq-eqb, map, All, Contains, Option, Some, None, refl, sym, ap, subst, ◌∙◌, arith}, lemmas.List.Elements.{All-head, All-tail}}
-use Rattle.span_collect.specs.{Event, Item, Good, Bad, Other, Unit, doc, Entry, Op, One, Ask, Query, Act, an_event, act_in, is_accepting, IsLegal, Topic, concerns, AreDistinct, calls, caller_of, Account.{asking, operations, telling}, InTurn.{AreSeparate, events_in, good_event, items_in}, declared.files.Input.Input}
+use Rattle.span_collect.specs.{Event, Item, Good, Bad, Other, Format, doc, Entry, Op, One, Ask, Query, Act, an_event, act_in, is_accepting, IsLegal, Topic, concerns, AreDistinct, calls, caller_of, Account.{asking, operations, telling}, InTurn.{AreSeparate, events_in, good_event, items_in}, declared.files.Input.Input}
 use Rattle.span_collect.proofs.InTurn.Exchanges.{IsSilentOn, act_of, exchange_of}
 
 -- the callers of the files have told their items, caller 0 has asked the queries, and nobody else has an entry
-pub record TellsFiles (unit : Unit) (strict : Bool) (files : List Input) (asks : List Query) (cs : List ℕ) (journal : List Entry) : Type 0 where
+pub record TellsFiles (format : Format) (strict : Bool) (files : List Input) (asks : List Query) (cs : List ℕ) (journal : List Entry) : Type 0 where
   pub legal : IsLegal strict journal
-  pub told : AllZip (λ file c. operations journal c ≡ telling (items_in (doc unit file.bytes.items))) files cs
+  pub told : AllZip (λ file c. operations journal c ≡ telling (items_in (doc format file.bytes.items))) files cs
   pub asked : operations journal 0 ≡ asking asks
   pub distinct : AreDistinct (0 ∷ cs)
   pub only : All (λ e. Contains (0 ∷ cs) e.caller) journal
@@ -18,18 +18,18 @@ abbrev pub IsQuery : Entry → Type 0
 IsQuery e = (e.caller ≡ 0) × (query : Query) × (e.op ≡ Ask query)
 
 -- the entry tells an item of the file at this place, under the file's caller
-pub record TellsItem (unit : Unit) (files : List Input) (cs : List ℕ) (e : Entry) : Type 0 where
+pub record TellsItem (format : Format) (files : List Input) (cs : List ℕ) (e : Entry) : Type 0 where
   pub place : ℕ
   pub file : Input
   pub item : Item
   pub at : slice_get files place ≡ Some file
   pub under : slice_get cs place ≡ Some e.caller
   pub tells : e.op ≡ One item
-  pub good : (event : Event) → item ≡ Good event → Contains (events_in (doc unit file.bytes.items)) event
+  pub good : (event : Event) → item ≡ Good event → Contains (events_in (doc format file.bytes.items)) event
 
 -- what an entry of such a journal is
-abbrev pub IsOfFiles : Unit → List Input → List ℕ → Entry → Type 0
-IsOfFiles unit files cs e = IsQuery e ⊎ TellsItem unit files cs e
+abbrev pub IsOfFiles : Format → List Input → List ℕ → Entry → Type 0
+IsOfFiles format files cs e = IsQuery e ⊎ TellsItem format files cs e
 
 Contains-first : {A : Type 0} (x : A) (xs : List A) → Contains (x ∷ xs) x
 Contains-first x xs = (0, omega arith, refl)
@@ -98,21 +98,21 @@ good_at (item ∷ items) (suc k) event at = by (good_event item) (good_at items 
     by None has = has
     by (Some first) has = Contains-rest first event (filter_map good_event items) has
 
-module _ (unit : Unit) (strict : Bool) (files : List Input) (asks : List Query) (cs : List ℕ) (journal : List Entry) (tells_files : TellsFiles unit strict files asks cs journal) where
+module _ (format : Format) (strict : Bool) (files : List Input) (asks : List Query) (cs : List ℕ) (journal : List Entry) (tells_files : TellsFiles format strict files asks cs journal) where
   -- a query or an item, by its caller
-  pub entry_is : (p : ℕ) (e : Entry) → slice_get journal p ≡ Some e → IsOfFiles unit files cs e
+  pub entry_is : (p : ℕ) (e : Entry) → slice_get journal p ≡ Some e → IsOfFiles format files cs e
   entry_is p e at = by (All-place (λ (x : Entry). Contains (0 ∷ cs) x.caller) journal p e tells_files.only at)
     where
-      by : Contains (0 ∷ cs) e.caller → IsOfFiles unit files cs e
+      by : Contains (0 ∷ cs) e.caller → IsOfFiles format files cs e
       by (zero, lt, is) =
           let own : e.caller ≡ 0 = sym is in
           let found = operation_of 0 journal p e at own in
           let asked = query_of asks found.0 e.op (sym (ap (λ l. slice_get l found.0) tells_files.asked) ∙ found.1) in
           inl (own, asked.0, asked.1)
       by (suc k, lt, is) =
-          let own = file_of (λ file c. operations journal c ≡ telling (items_in (doc unit file.bytes.items))) files cs e.caller tells_files.told (k, omega (arith, lt), is) in
+          let own = file_of (λ file c. operations journal c ≡ telling (items_in (doc format file.bytes.items))) files cs e.caller tells_files.told (k, omega (arith, lt), is) in
           let found = operation_of e.caller journal p e at refl in
-          let told = item_of (items_in (doc unit own.1.bytes.items)) found.0 e.op (sym (ap (λ l. slice_get l found.0) own.4) ∙ found.1) in
+          let told = item_of (items_in (doc format own.1.bytes.items)) found.0 e.op (sym (ap (λ l. slice_get l found.0) own.4) ∙ found.1) in
           inr (record {
             place = own.0;
             file = own.1;
@@ -120,12 +120,12 @@ module _ (unit : Unit) (strict : Bool) (files : List Input) (asks : List Query) 
             at = own.2;
             under = own.3;
             tells = told.1;
-            good = λ event is_good. good_at (items_in (doc unit own.1.bytes.items)) found.0 event (told.2 ∙ ap Some is_good);
+            good = λ event is_good. good_at (items_in (doc format own.1.bytes.items)) found.0 event (told.2 ∙ ap Some is_good);
           })
 
   -- each entry is one of these
-  pub IsOfFiles-all : AllByRecursion (IsOfFiles unit files cs) journal
-  IsOfFiles-all = AllByRecursion-places (IsOfFiles unit files cs) journal entry_is
+  pub IsOfFiles-all : AllByRecursion (IsOfFiles format files cs) journal
+  IsOfFiles-all = AllByRecursion-places (IsOfFiles format files cs) journal entry_is
 
 -- an act that an entry was accepted as is that of its operation
 act_in-accepted : (e : Entry) (act : Act) → act_of (exchange_of e) ≡ Some act → act_in e.op ≡ Some act
@@ -145,30 +145,30 @@ good_of Other op act is acts = absurd (let none : None ≡ Some act = sym (ap ac
 query_silent : (topic : Topic) (e : Entry) → IsQuery e → IsSilentOn topic e
 query_silent topic e (own, query, is) act accepted = absurd (let none : None ≡ Some act = sym (ap act_in is) ∙ act_in-accepted e act accepted in cc)
 
-module _ (unit : Unit) (files : List Input) (cs : List ℕ) where
+module _ (format : Format) (files : List Input) (cs : List ℕ) where
   -- where a topic concerns no good event of the entry's file, the entry is silent on it
-  pub silent_item : (topic : Topic) (e : Entry) → (of_file : TellsItem unit files cs e) → ((event : Event) → Contains (events_in (doc unit of_file.file.bytes.items)) event → concerns topic (an_event event) ≡ false) → IsSilentOn topic e
+  pub silent_item : (topic : Topic) (e : Entry) → (of_file : TellsItem format files cs e) → ((event : Event) → Contains (events_in (doc format of_file.file.bytes.items)) event → concerns topic (an_event event) ≡ false) → IsSilentOn topic e
   silent_item topic e of_file none act accepted =
       let own = good_of of_file.item e.op act of_file.tells (act_in-accepted e act accepted) in
       ap (concerns topic) own.2 ∙ none own.0 (of_file.good own.0 own.1)
 
-  pub silent_entry : (topic : Topic) (e : Entry) → IsOfFiles unit files cs e →
-      ((of_file : TellsItem unit files cs e) (event : Event) → Contains (events_in (doc unit of_file.file.bytes.items)) event → concerns topic (an_event event) ≡ false) → IsSilentOn topic e
+  pub silent_entry : (topic : Topic) (e : Entry) → IsOfFiles format files cs e →
+      ((of_file : TellsItem format files cs e) (event : Event) → Contains (events_in (doc format of_file.file.bytes.items)) event → concerns topic (an_event event) ≡ false) → IsSilentOn topic e
   silent_entry topic e (inl query) none = query_silent topic e query
   silent_entry topic e (inr of_file) none = silent_item topic e of_file (none of_file)
 
-  module _ (separate : AreSeparate unit files) where
+  module _ (separate : AreSeparate format files) where
     -- on a topic of a file's good event all entries of other callers are silent
     pub silent_others : (topic : Topic) (place : ℕ) (file : Input) (c : ℕ) → slice_get files place ≡ Some file → slice_get cs place ≡ Some c →
-        (event : Event) → Contains (events_in (doc unit file.bytes.items)) event → concerns topic (an_event event) ≡ true → (e : Entry) → IsOfFiles unit files cs e → e.caller ≢ c → IsSilentOn topic e
+        (event : Event) → Contains (events_in (doc format file.bytes.items)) event → concerns topic (an_event event) ≡ true → (e : Entry) → IsOfFiles format files cs e → e.caller ≢ c → IsSilentOn topic e
     silent_others topic place file c at under event has about e of_files other =
         silent_entry topic e of_files (λ of_file event' has'. separate place of_file.place file of_file.file (λ same. other (elsewhere of_file same)) at of_file.at topic event event' has has' about)
       where
-        elsewhere : (of_file : TellsItem unit files cs e) → place ≡ of_file.place → e.caller ≡ c
+        elsewhere : (of_file : TellsItem format files cs e) → place ≡ of_file.place → e.caller ≡ c
         elsewhere of_file same = let both : Some e.caller ≡ Some c = sym of_file.under ∙ ap (slice_get cs) (sym same) ∙ under in let equal : e.caller ≡ c = cc in equal
 
     -- so it is of two entries of a journal
-    pub IsOfFiles-apart : (x y : Entry) → IsOfFiles unit files cs x → IsOfFiles unit files cs y → (c : ℕ) → x.caller ≡ c → y.caller ≢ c → (act : Act) → act_in x.op ≡ Some act → (topic : Topic) → concerns topic act ≡ true → IsSilentOn topic y
+    pub IsOfFiles-apart : (x y : Entry) → IsOfFiles format files cs x → IsOfFiles format files cs y → (c : ℕ) → x.caller ≡ c → y.caller ≢ c → (act : Act) → act_in x.op ≡ Some act → (topic : Topic) → concerns topic act ≡ true → IsSilentOn topic y
     IsOfFiles-apart x y (inl query) of_y c own other act acts topic about = absurd (let none : None ≡ Some act = sym (ap act_in query.2) ∙ acts in cc)
     IsOfFiles-apart x y (inr of_x) of_y c own other act acts topic about =
         let good = good_of of_x.item x.op act of_x.tells acts in

@@ -4,7 +4,7 @@ use Rattle.span_collect.specs.{Entry, Query, Output as OutputFails, WriteLeaves,
 
 -- where the files are separate, and the status is below 2, it is that text
 abbrev pub IsTextInTurn : TextOf → List Input → List Query → Settings → ℕ → List FileEnd → List Entry → Type 0
-IsTextInTurn text files asks settings status ends journal = AreSeparate settings.unit files → status < 2 → text ends journal ≡ text_in_turn text files asks settings
+IsTextInTurn text files asks settings status ends journal = AreSeparate settings.format files → status < 2 → text ends journal ≡ text_in_turn text files asks settings
 
 module _ (text : TextOf) (files : List Input) (asks : List Query) (settings : Settings) (status : ℕ) (ends : List FileEnd) (journal : List Entry)
     (same : IsTextInTurn text files asks settings status ends journal) (old new : SinkState) where

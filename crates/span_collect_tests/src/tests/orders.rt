@@ -66,7 +66,7 @@ fn report_in(
     let gate = Steps::new(&order.0);
     let outcome = collect(rt, rt.alloc(), files, &ASKS, &gate, settings)?;
     is_whole(rt, &outcome, order.1);
-    let text = report(rt.alloc(), settings.unit, &outcome.ledger);
+    let text = report(rt.alloc(), settings.format.unit, &outcome.ledger);
     drop(outcome);
     assert!(rt; gate.are([3, 3, 2]));
     Ok(text?)

@@ -11,7 +11,7 @@ pub returns-in_default : goal.returns-in_default
 returns-in_default g c =
     let invariant = c.loop-query.invariant in
     let asks = c.args.asks.now in
-    λ unit. HasMet-asked unit c.args.share.now asks c.loop-query.done (Some Memory) _ c.loop-query.seat
+    λ format. HasMet-asked format c.args.share.now asks c.loop-query.done (Some Memory) _ c.loop-query.seat
     (subst (λ k. HasRecorded c.args.share.now (asking (take k asks)) c.loop-query.seat) (sym invariant.done) invariant.recorded) invariant.first refl
     (omega (arith, invariant.done, c.loop-query-test.true), tt)
 
@@ -25,7 +25,7 @@ returns-in-Err g c =
     let asks = c.args.asks.now in
     let told = c.in-Err.ensures.told in
     let kept = HasRecorded-keeps c.args.share.now (asking (take c.loop-query.query-index asks)) c.loop-query.seat c.ask.new.seat invariant.recorded told.seat told.kept in
-    λ unit. HasMet-asked unit c.args.share.now asks c.loop-query.done (Some c.in-Err.back.cause) _ c.ask.new.seat
+    λ format. HasMet-asked format c.args.share.now asks c.loop-query.done (Some c.in-Err.back.cause) _ c.ask.new.seat
     (subst (λ k. HasRecorded c.args.share.now (asking (take k asks)) c.ask.new.seat) (sym invariant.done) kept) (told.kept.number ∙ invariant.first) refl
     (omega (arith, invariant.done, c.loop-query-test.true), IsCause-at c.args.share.now.terms.limit c.ask.new.seat.seen c.in-Err.back.cause c.in-Err.ensures.cause told.cause)
 
@@ -63,6 +63,6 @@ pub returns : goal.returns
 returns g c =
     let invariant = c.loop-query.invariant in
     let asks = c.args.asks.now in
-    λ unit. HasMet-asked unit c.args.share.now asks c.loop-query.done None _ c.loop-query.seat
+    λ format. HasMet-asked format c.args.share.now asks c.loop-query.done None _ c.loop-query.seat
     (subst (λ k. HasRecorded c.args.share.now (asking (take k asks)) c.loop-query.seat) (sym invariant.done) invariant.recorded) invariant.first refl
     (omega (arith, invariant.done, c.loop-query-test.false, c.loop-query.auto.query-index-end))
