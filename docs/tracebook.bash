@@ -1,6 +1,6 @@
 # Completes the command line of tracebook in bash: its options, the words that follow them, and files.
 
-_tracebook_options="--limit --nanoseconds --seal --strict --top --by --numbers --of --group-by --where --merge-templates --only --skip --json --apart --repeats --jobs --add --files-from --refused --folded --page --base --help --version"
+_tracebook_options="--large --limit --nanoseconds --seal --strict --top --by --numbers --of --group-by --where --merge-templates --only --skip --json --apart --repeats --jobs --add --files-from --refused --folded --page --base --help --version"
 
 _tracebook() {
     local word=${COMP_WORDS[COMP_CWORD]} before=${COMP_WORDS[COMP_CWORD-1]} earlier of=spans numbers names listed

@@ -1,5 +1,5 @@
 #!/usr/bin/env python3
-"""Splits a trace that is too large for one file by its processes.
+"""Splits a trace that is too large for one file, or for the memory, by its processes.
 
 usage: split_by_process.py [--bytes N] [--elements N] FILE FOLDER
 
@@ -7,6 +7,9 @@ Writes FOLDER/part_01.json, part_02.json and on, each of at most so many bytes a
 4,194,304, which is what tracebook reads of one file), and prints their names. Each part has whole processes, with their
 elements in their order and as they are written; processes that share the id of an async span or of a flow stay together. So
 tracebook's report of the parts is that of the whole.
+
+With `--large` tracebook reads a file of up to 4 GiB whole, which takes less time, and some four times as much memory as the file
+has bytes. Split what is larger, or what there is no memory for: with `--apart --jobs 1` tracebook reads one part after another.
 
 Processes that belong together and are too large for one part get a part of their own all the same, and are named on standard
 error; the status is then 1. FILE is read twice, piece by piece: only the processes and the ids are kept in memory.

@@ -35,7 +35,7 @@ abbrev pub greatest : ℕ
 greatest = 4294967295
 
 abbrev pub settings : List Rule
-settings = number (codes "limit") greatest ∷ switch (codes "nanoseconds") ∷ switch (codes "seal") ∷ switch (codes "strict") ∷ []
+settings = switch (codes "large") ∷ number (codes "limit") greatest ∷ switch (codes "nanoseconds") ∷ switch (codes "seal") ∷ switch (codes "strict") ∷ []
 
 abbrev pub tables : List Rule
 tables =

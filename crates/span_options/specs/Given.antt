@@ -29,6 +29,7 @@ abbrev pub number_of : Text → Matches → Option ℕ
 number_of name matches = option_and_then as_number (one_of name matches)
 
 pub record IsGiven (matches : Matches) (options : Options) : Type 0 where
+  pub large : options.large ≡ is_on (codes "large") matches
   pub limit : options.limit ≡ number_of (codes "limit") matches
   pub nanoseconds : options.nanoseconds ≡ is_on (codes "nanoseconds") matches
   pub seal : options.seal ≡ is_on (codes "seal") matches

@@ -16,6 +16,7 @@ is_plain (byte ∷ rest) = not (byte == 45)
 
 -- the options name files, and give nothing else
 pub record HasOnlyFiles (files : List Text) (options : Options) : Type 0 where
+  pub large : options.large ≡ false
   pub limit : options.limit ≡ None
   pub nanoseconds : options.nanoseconds ≡ false
   pub seal : options.seal ≡ false

@@ -5,15 +5,15 @@ ghost use Rattle.span_options.specs.Command.{command, list, number, option, othe
 
 use crate::help::{
     ABOUT, ADD_HELP, AFTER, APART_HELP, BASE_HELP, BY_HELP, FILE_HELP, FILES_FROM_HELP,
-    FOLDED_HELP, GROUP_BY_HELP, JOBS_HELP, JSON_HELP, MERGE_TEMPLATES_HELP, NANOSECONDS_HELP,
-    NUMBERS_HELP, OF_HELP, ONLY_HELP, PAGE_HELP, REFUSED_HELP, REPEATS_HELP, SEAL_HELP, SKIP_HELP,
-    STRICT_HELP, TOP_HELP, WHERE_HELP,
+    FOLDED_HELP, GROUP_BY_HELP, JOBS_HELP, JSON_HELP, LARGE_HELP, MERGE_TEMPLATES_HELP,
+    NANOSECONDS_HELP, NUMBERS_HELP, OF_HELP, ONLY_HELP, PAGE_HELP, REFUSED_HELP, REPEATS_HELP,
+    SEAL_HELP, SKIP_HELP, STRICT_HELP, TOP_HELP, WHERE_HELP,
 };
 use clap::builder::ValueParser;
 use clap::{Arg, ArgAction, Command};
 use std::alloc::{AllocError, Global};
 
-/// The most entries of the journal, where the command line does not say.
+/// The most entries of the journal, where the command line does not say, nor that files may be large.
 pub const DEFAULT_LIMIT: u32 = 16_777_216;
 
 pub(crate) fn command_of<'a>(alloc: Global, limit_help: &'a str) -> Result<Command<'a>, AllocError>
@@ -34,6 +34,7 @@ fn settings<'a>(alloc: Global, limit_help: &'a str) -> Result<Vec<Arg<'a>>, Allo
     ensures { IfOk result (λ made. map rule_of made.items ≡ settings) }
 {
     Ok(vec![in alloc;
+        switch(alloc, "large", LARGE_HELP),
         number(alloc, "limit", u32::MAX, limit_help),
         switch(alloc, "nanoseconds", NANOSECONDS_HELP),
         switch(alloc, "seal", SEAL_HELP),

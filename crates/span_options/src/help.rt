@@ -1,6 +1,11 @@
 //! The texts of the help.
 
 // Lines are broken here, since the library breaks none: each is to end within 80 columns.
+pub(crate) const LARGE_HELP: &str =
+    r#"Read files of up to 4 GiB, with any number of elements, and not just
+of 64 MiB and 4194304; a run takes some four times as much memory as
+its files"#;
+
 pub(crate) const NANOSECONDS_HELP: &str =
     r#"Read times with fractions of microseconds, each as the nearest
 whole nanosecond; all times that are printed are then nanoseconds"#;

@@ -11,6 +11,7 @@ use std::alloc::{AllocError, Global};
 /// has its texts in their order; of another, the last text or number counts.
 #[derive(Drop)]
 pub struct Options {
+    pub large: bool,
     pub limit: Option<u32>,
     pub nanoseconds: bool,
     pub seal: bool,
@@ -41,6 +42,7 @@ pub(crate) fn options_given(alloc: Global, matches: &ArgMatches<'_>) -> Result<O
     ensures { IfOk result (IsGiven (rows_of (found_of matches.now))) }
 {
     Ok(Options {
+        large: is_on(matches, "large"),
         limit: number_of(matches, "limit"),
         nanoseconds: is_on(matches, "nanoseconds"),
         seal: is_on(matches, "seal"),

@@ -41,7 +41,9 @@ pub fn refusal(alloc: Global, rule: &str) -> Result<String, AllocError> {
 }
 
 fn limit_help(alloc: Global) -> Result<String, AllocError> {
-    format!(in alloc; "The most entries of the journal, 1 to 4294967295 [default: {DEFAULT_LIMIT}]")
+    format!(in alloc;
+        "The most entries of the journal, 1 to 4294967295\n[default: {DEFAULT_LIMIT}; with --large 4294967295]"
+    )
 }
 
 fn strings<'a>(alloc: Global, words: &'a [Text]) -> Result<Vec<&'a str>, AllocError>
