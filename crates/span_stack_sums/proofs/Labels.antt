@@ -4,7 +4,7 @@ use Rattle.std.proofs.{Common.{◌≡◌, ℕ, ◌+◌, ◌-◌, ◌≤◌, Bool
 use Rattle.span_keyed_tracks.specs.Keyed.{entry_of, keys_in, steps_at}
 use Rattle.span_keyed_tracks.proofs.{Keyed.{has_key, keys_of-made}, SameKeys.step_keys}
 use Rattle.span_self_time.proofs.Mapped.{sum_by-map}
-use Rattle.span_table.specs.{Keys.key_cmp, Sums.with_sums, Tables.{summed, sums_together}}
+use Rattle.span_table.specs.{Keys.key_cmp, Tables.{summed, sums_together}}
 use Rattle.span_table.proofs.{AddedTables.rows_of-alike, Alike.{sums_at-append, step_keys-append}, Tallies.with_sums-turned}
 use Rattle.span_stack_sums.specs.{Keyed, KeyedSums, Row, Sums, SumsByKey, TableKey, row_of, rows_of, Text.labels_in}
 

@@ -10,5 +10,5 @@ mod threads;
 pub use span_ledger::Ledger;
 pub use span_names::HashKeys;
 pub use span_report::stacks::{SpanColumn, StacksFault};
-pub use span_table::SumFault;
+pub use span_table::{Row, SumFault};
 pub use stack_sum::StackSum;

@@ -3,12 +3,12 @@ ghost use Rattle.std.specs.Prelude.{◌≡◌, ◌+◌, ◌<◌, ◌≤◌, ◌^
 ghost use Rattle.span_stack_sums.specs.{KeyedSums, TooLarge, TooMany, most_names, rows_of, Stacks.{IsEmpty, JoinsSums, Stands, TakesJournal}, Text.{IsTextOf, labels_in}};
 
 use crate::stack_rows::StackRows;
-use crate::text::text_of;
+use crate::text::{check_labels, text_of};
 use crate::threads::add_threads;
 use span_ledger::Ledger;
 use span_names::HashKeys;
 use span_report::stacks::{SpanColumn, StacksFault};
-use span_table::SumFault;
+use span_table::{Row, SumFault};
 use std::alloc::{AllocError, Global};
 use std::marker::Model;
 
@@ -111,6 +111,22 @@ impl StackSum {
         })
     }
 
+    /// Each stack once, in order. None are given where they have more labels than the stacks of one run may have.
+    pub fn into_rows(self) -> Result<Vec<Row>, StacksFault>
+        ensures rows { IfOk result (λ rows. (sums : KeyedSums) → Stands self.rows sums
+            → rows.items ≡ rows_of sums) }
+        ensures few { IfOk result (λ rows. labels_in rows.items ≤ most_names) }
+        ensures full { IfErr result (λ fault. fault ≡ TooLarge → (sums : KeyedSums)
+            → Stands self.rows sums → most_names < labels_in (rows_of sums)) }
+    {
+        let Some(rows) = self.rows else {
+            return Err(StacksFault::TooLarge);
+        };
+        let rows = rows.into_rows()?;
+        check_labels(&rows)?;
+        Ok(rows)
+    }
+
     /// A line for each stack, in order: its frames, and how many ticks have it. None where they have more labels than the stacks of one
     /// run may have.
     pub fn into_text(self, alloc: Global) -> Result<Vec<u8>, StacksFault>
@@ -119,9 +135,7 @@ impl StackSum {
         ensures full { IfErr result (λ fault. fault ≡ TooLarge → (sums : KeyedSums)
             → Stands self.rows sums → most_names < labels_in (rows_of sums)) }
     {
-        match self.rows {
-            Some(rows) => text_of(alloc, &rows.into_rows()?),
-            None => Err(StacksFault::TooLarge),
-        }
+        let rows = self.into_rows()?;
+        Ok(text_of(alloc, &rows)?)
     }
 }

@@ -1,6 +1,6 @@
 //! The text of stacks that were added.
 ghost use Rattle.std.specs.Prelude.{◌≡◌, ◌++◌, ◌-◌, ◌≤◌, ◌<◌, length, IfErr, IfOk, OnOk};
-ghost use Rattle.span_stack_sums.specs.{most_names, TooLarge, Text.{IsTextOf, key_frames, labels_in, lines_of, row_line, value_frame}};
+ghost use Rattle.span_stack_sums.specs.{most_names, TooLarge, Text.{key_frames, labels_in, lines_of, row_line, value_frame}};
 
 use span_report::stacks::{StacksFault, put_frame};
 use span_table::{ArgValue, Key, Row};
@@ -19,18 +19,17 @@ pub(crate) fn labels_of(key: &Key) -> usize
     key.values().len().saturating_sub(NAMES)
 }
 
-/// A line for each row, unless they have too many labels.
-pub(crate) fn text_of(alloc: Global, rows: &[Row]) -> Result<Vec<u8>, StacksFault>
-    ensures text { IfOk result (λ text. IsTextOf rows.now text.items) }
-    ensures full { IfErr result (λ fault. fault ≡ TooLarge → most_names < labels_in rows.now) }
+/// A line for each row.
+pub(crate) fn text_of(alloc: Global, rows: &[Row]) -> Result<Vec<u8>, AllocError>
+    ensures { IfOk result (λ text. text.items ≡ lines_of rows.now) }
 {
-    check_labels(rows)?;
     let mut out = Vec::new(alloc);
     put_rows(alloc, &mut out, rows)?;
     Ok(out)
 }
 
-fn check_labels(rows: &[Row]) -> Result<(), StacksFault>
+/// Refuses rows that have too many labels.
+pub(crate) fn check_labels(rows: &[Row]) -> Result<(), StacksFault>
     ensures fits { OnOk result (labels_in rows.now ≤ most_names) }
     ensures full { IfErr result (λ fault. most_names < labels_in rows.now) }
 {
