@@ -2,14 +2,17 @@
 // stands there is taken like what a person types and chooses, and left out where the page has nothing of that name.
 
 const MOST_ZOOMS = 20;
+const WHOLE = "all";
 
 /** A file that is a run of its own, as it stands in an address: by its place from 1, since names may be long, or the same. */
 function fileNumberOf({ at }) {
   return String(at + 1);
 }
 
-/** A process or a thread as it stands there, behind its file where there are several runs. */
-function placeOf({ file, process, number }) {
+/** A process or a thread as it stands there, behind its file where there are several runs; and what stands for the graph of all files. */
+function placeOf(place) {
+  if (place === whole) return WHOLE;
+  const { file, process, number } = place;
   if (process) return `${placeOf(process)}.${number}`;
   return isApart ? `${fileNumberOf(file)}.${number}` : number;
 }
@@ -57,6 +60,6 @@ function showKeptView() {
 /** The thread and the place of a frame that an address names, or null where there is no such graph. */
 function zoomOf(text) {
   const [, place, at] = /^(.+)\.(\d{1,9})$/.exec(text) ?? [];
-  const thread = report.threads.find((one) => placeOf(one) === place);
+  const thread = place === WHOLE ? whole : report.threads.find((one) => placeOf(one) === place);
   return thread && hasGraph(thread) ? { thread, at: Number(at) } : null;
 }

@@ -4,6 +4,8 @@ const LEVEL = 20; // the height of a level in CSS pixels
 const MOST_SEEN = 32; // levels; what lies below them is reached by scrolling
 const LETTER = 6.7; // the width of a letter of the frames' font
 const GAP = 14; // between the pointer and what is told beside it
+const DOUBLING = 120; // the pixels of a turn of the wheel that shows frames twice as wide
+const MOST_SCALE = 2 ** 30;
 const TREE_KEYS = { ArrowUp: "above", ArrowDown: "below", ArrowLeft: "before", ArrowRight: "after", Home: "zoomed" };
 
 /** A hue for a name, the same wherever the name stands. */
@@ -29,12 +31,18 @@ function partElement({ column, value }, most) {
   return element("span", {}, element("span", { className: "quiet" }, `${brief(column, LONGEST_LABEL)} `), line);
 }
 
+/** What a graph is of. */
+function titleOf(thread) {
+  return thread === whole ? thread.label : `thread ${thread.label}`;
+}
+
 class Graph {
   constructor(thread, stacks, isWidestFirst) {
     this.thread = thread;
-    this.frames = framesOf(`thread ${thread.label}`, stacks);
+    this.frames = framesOf(titleOf(thread), stacks);
     this.root = this.zoomed = this.focused = this.frames[0];
-    Object.assign(this, { isWidestFirst, pointed: null, marks: null, marked: [], history: [], levels: [], width: 0 });
+    // `scale` and `from` say which part of the zoomed frame is seen: one that is so many times smaller, from this fraction on.
+    Object.assign(this, { isWidestFirst, pointed: null, marks: null, marked: [], history: [], levels: [], width: 0, scale: 1, from: 0 });
     this.makeElements(thread);
     this.listen();
     this.showUnder();
@@ -44,13 +52,13 @@ class Graph {
     this.told = element("p", { className: "told", ariaLive: "polite" });
     this.markedStatus = element("p", { className: "status", role: "status" });
     this.backButton = element("button", { type: "button", onclick: () => this.back() }, "Back");
-    this.wholeButton = element("button", { type: "button", onclick: () => this.zoom(this.root) }, "Whole thread");
+    this.wholeButton = element("button", { type: "button", onclick: () => this.zoom(this.root) }, thread === whole ? "Whole graph" : "Whole thread");
     this.canvas = element("canvas", { ariaHidden: "true" });
     this.item = element("div", { role: "treeitem", id: `focused-${thread.at}`, className: "unseen" });
     this.spacer = element("div", { className: "spacer", role: "none" }, this.canvas);
     this.tip = element("div", { className: "tip", ariaHidden: "true", hidden: true });
-    const inFile = isApart ? ` in ${brief(thread.file.name, LONGEST_NAME)}` : "";
-    const label = `Flame graph of thread ${brief(thread.label, LONGEST_NAME)}${inFile}`;
+    const inFile = isApart && thread !== whole ? ` in ${brief(thread.file.name, LONGEST_NAME)}` : "";
+    const label = `Flame graph of ${brief(titleOf(thread), LONGEST_NAME)}${inFile}`;
     this.view = element("div", { className: "view", role: "tree", tabIndex: 0, ariaLabel: label }, this.spacer, this.item);
     this.view.setAttribute("aria-activedescendant", this.item.id);
     this.under = new Table("names", [
@@ -78,6 +86,7 @@ class Graph {
     this.canvas.addEventListener("pointermove", (event) => this.point(this.frameAt(event), event));
     this.canvas.addEventListener("pointerleave", () => this.point(null));
     this.canvas.addEventListener("click", (event) => this.zoom(this.frameAt(event) ?? this.zoomed));
+    this.canvas.addEventListener("wheel", (event) => event.ctrlKey && this.turn(event), { passive: false });
     matchMedia("(prefers-color-scheme: dark)").addEventListener("change", redraw);
     new ResizeObserver(() => this.view.clientWidth !== this.width && this.layOut()).observe(this.view);
   }
@@ -87,7 +96,8 @@ class Graph {
     if (width === 0) return;
     this.width = width;
     this.showTip(null); // Frames lie elsewhere now.
-    this.levels = levelsOf(this.zoomed, width, this.isWidestFirst);
+    const whole = width * this.scale;
+    this.levels = levelsOf(this.zoomed, { x: -this.from * whole, width: whole }, width, this.isWidestFirst);
     if (!this.levels[this.focused.level]?.some((box) => box.frame === this.focused)) this.focused = this.zoomed;
     this.canvas.boxes = this.levels; // for scripts that look at the page: what is drawn, level by level, in CSS pixels
     const seen = LEVEL * Math.min(this.levels.length, MOST_SEEN);
@@ -113,7 +123,9 @@ class Graph {
     for (const box of this.levels.slice(first, first + MOST_SEEN + 1).flat()) this.drawBox(ink, box, look);
   }
 
-  drawBox(ink, { frame, x, width }, [text, ground, lightness, focus]) {
+  drawBox(ink, { frame, x: left, width: whole }, [text, ground, lightness, focus]) {
+    const x = Math.max(0, left);
+    const width = Math.min(this.width, left + whole) - x;
     const y = LEVEL * frame.level;
     const isDim = this.marks !== null && !this.marks(frame.name);
     ink.fillStyle = frame === this.root || isDim ? ground : `hsl(${hueOf(frame.name)} 55% ${lightness})`;
@@ -153,14 +165,14 @@ class Graph {
     this.showTip(frame, { left: offsetX + GAP, top: offsetY - GAP, bottom: offsetY + GAP });
   }
 
-  /** Tells of a frame beside a part of the view: below it, or above where the window has no room. Of no frame nothing is told. */
+  /** Tells of a frame beside a part of the view: below it, or above where there is no room. Of no frame nothing is told. */
   showTip(frame, { left, top, bottom } = {}) {
     this.tip.hidden = frame === null;
     if (frame === null) return;
     this.tip.replaceChildren(...this.detailsOf(frame, LONGEST_NAME));
     const { width, height } = this.tip.getBoundingClientRect();
     const view = this.view.getBoundingClientRect();
-    const isBelow = view.top + bottom + height <= innerHeight;
+    const isBelow = view.top + bottom + height <= lowestSeen();
     this.tip.style.left = `${Math.max(0, Math.min(left, view.width - width))}px`;
     this.tip.style.top = `${isBelow ? bottom : top - height}px`;
   }
@@ -169,7 +181,7 @@ class Graph {
   showFocused() {
     const box = this.levels[this.focused.level]?.find(({ frame }) => frame === this.focused);
     const top = LEVEL * this.focused.level - this.view.scrollTop;
-    this.showTip(box ? this.focused : null, { left: box?.x, top: top - 2, bottom: top + LEVEL + 2 });
+    this.showTip(box ? this.focused : null, { left: Math.max(0, box?.x), top: top - 2, bottom: top + LEVEL + 2 });
   }
 
   meetFocus() {
@@ -188,8 +200,8 @@ class Graph {
   tell() {
     this.told.replaceChildren(...this.detailsOf(this.pointed ?? this.focused, LONGEST_WHOLE));
     this.describe(this.focused);
-    this.backButton.disabled = this.history.length === 0;
-    this.wholeButton.disabled = this.zoomed === this.root;
+    this.backButton.disabled = this.history.length === 0 && this.scale === 1;
+    this.wholeButton.disabled = this.zoomed === this.root && this.scale === 1;
   }
 
   /** The focused frame as an item of a tree, for those who hear the page. */
@@ -204,9 +216,14 @@ class Graph {
 
   /** The name of a frame, its details apart from it, each cut to so many letters, and its numbers. */
   detailsOf(frame, most) {
-    const parts = frame === this.root ? plainParts(frame.name) : spans.framePartsOf(frame.name, this.thread);
+    const isPlain = frame === this.root || this.thread === whole;
+    const parts = isPlain ? plainParts(frame.name) : spans.framePartsOf(frame.name, this.thread);
     const lines = parts.map((part) => partElement(part, most));
-    return [element("span", { className: "label" }, ...lines), element("span", {}, `${this.numbersOf(frame)} of the thread's busy time`)];
+    return [element("span", { className: "label" }, ...lines), element("span", {}, `${this.numbersOf(frame)} ${this.ofWhat}`)];
+  }
+
+  get ofWhat() {
+    return this.thread === whole ? "of all busy time" : "of the thread's busy time";
   }
 
   numbersOf({ self, total }) {
@@ -255,9 +272,25 @@ class Graph {
     tellOfChange(this.element);
   }
 
+  leaveZoom() {
+    if (this.zoomed !== this.root || this.scale > 1) this.zoom(this.root);
+  }
+
   back() {
-    if (this.history.length > 0) this.open(this.history.pop());
+    if (this.scale > 1) this.open(this.zoomed);
+    else if (this.history.length > 0) this.open(this.history.pop());
     tellOfChange(this.element);
+  }
+
+  /** Shows frames wider or narrower by a turn of the wheel, in pixels or in lines; what is at the pointer stays there. */
+  turn(event) {
+    const pixels = event.deltaMode === WheelEvent.DOM_DELTA_LINE ? LEVEL * event.deltaY : event.deltaY;
+    const scale = Math.min(MOST_SCALE, Math.max(1, this.scale * 2 ** (-pixels / DOUBLING)));
+    const from = this.from + event.offsetX / this.width * (1 / this.scale - 1 / scale);
+    Object.assign(this, { scale, from: Math.max(0, Math.min(from, 1 - 1 / scale)) });
+    this.layOut();
+    this.point(this.frameAt(event), event);
+    event.preventDefault();
   }
 
   /** Opens a frame as if it had been zoomed into from the whole thread. */
@@ -267,9 +300,7 @@ class Graph {
   }
 
   open(frame) {
-    this.zoomed = frame;
-    this.pointed = null;
-    this.focused = frame;
+    Object.assign(this, { zoomed: frame, focused: frame, pointed: null, scale: 1, from: 0 });
     this.layOut();
     this.view.scrollTop = LEVEL * Math.max(0, frame.level - 3);
     this.focus(frame);
@@ -313,7 +344,7 @@ class Graph {
     }
     const count = this.marked.length;
     const marked = count === 1 ? "1 frame marked," : `${framesText(count)} marked, together`;
-    return `${marked} ${timeText(time)}, ${shareText(time, this.root.total)} of the thread's busy time`;
+    return `${marked} ${timeText(time)}, ${shareText(time, this.root.total)} ${this.ofWhat}`;
   }
 
   /** Shows a marked frame: leaves the zoom where none is drawn in it, and zooms into the widest where all are narrower than a pixel. */

@@ -1,9 +1,25 @@
 // The frames of a thread's stacks, and the boxes as which they are drawn: a frame is as wide as its time.
 
+// What most frames have under them: one list for all of them, since a page may have millions.
+const NO_FRAMES = Object.freeze([]);
+
 /** A frame, which stands at a place among those of its thread; those under it are the next ones, and `size` counts it and them. */
 class Frame {
   constructor(name, parent, at) {
-    Object.assign(this, { name, parent, at, size: 1, level: parent ? parent.level + 1 : 0, self: 0n, total: 0n, children: [] });
+    this.name = name;
+    this.parent = parent;
+    this.at = at;
+    this.size = 1;
+    this.level = parent === null ? 0 : parent.level + 1;
+    this.self = 0n;
+    this.total = 0n;
+    this.children = NO_FRAMES;
+  }
+
+  /** Takes a frame under it. */
+  take(frame) {
+    if (this.children === NO_FRAMES) this.children = [frame];
+    else this.children.push(frame);
   }
 
   /** Whether it is another frame or stands under it. */
@@ -20,7 +36,7 @@ function framesOf(label, stacks) {
     stack.length = shared + 1;
     for (const name of names) {
       const frame = new Frame(name, stack.at(-1), frames.length);
-      frame.parent.children.push(frame);
+      frame.parent.take(frame);
       frames.push(frame);
       stack.push(frame);
     }
@@ -32,7 +48,8 @@ function framesOf(label, stacks) {
 
 /** Gives each frame the time of those under it, and their number. */
 function addUp(frames) {
-  for (const frame of frames.toReversed()) {
+  for (let at = frames.length - 1; at >= 0; at -= 1) {
+    const frame = frames[at];
     frame.total += frame.self;
     if (frame.parent) {
       frame.parent.total += frame.total;
@@ -41,26 +58,28 @@ function addUp(frames) {
   }
 }
 
-/** The boxes of the children of a box, side by side; what is narrower than a pixel has none. */
-function boxesUnder({ frame, x, width }, isWidestFirst) {
+/** The boxes of the children of a box, side by side; what is narrower than a pixel, or lies outside of so many pixels, has none. */
+function boxesUnder({ frame, x, width }, room, isWidestFirst) {
   const children = isWidestFirst ? frame.children.toSorted((one, other) => compare(other.total, one.total)) : frame.children;
   const boxes = [];
   let before = 0n;
   for (const child of children) {
     const own = width * fraction(child.total, frame.total);
-    if (own >= 1) boxes.push({ frame: child, x: x + width * fraction(before, frame.total), width: own });
+    const left = x + width * fraction(before, frame.total);
+    if (own >= 1 && left < room && left + own > 0) boxes.push({ frame: child, x: left, width: own });
     before += child.total;
   }
   return boxes;
 }
 
-/** The boxes of a frame, of those around it and of all under it, level by level. */
-function levelsOf(zoomed, width, isWidestFirst) {
+/** The boxes of a frame, which begins at a place and is so wide, of those around it and of all under it that lie in so many pixels, level
+ * by level. */
+function levelsOf(zoomed, { x, width }, room, isWidestFirst) {
   const levels = [];
-  for (let frame = zoomed; frame; frame = frame.parent) levels.push([{ frame, x: 0, width }]);
+  for (let frame = zoomed; frame; frame = frame.parent) levels.push([{ frame, x, width }]);
   levels.reverse();
   for (;;) {
-    const next = levels.at(-1).flatMap((box) => boxesUnder(box, isWidestFirst));
+    const next = levels.at(-1).flatMap((box) => boxesUnder(box, room, isWidestFirst));
     if (next.length === 0) return levels;
     levels.push(next);
   }

@@ -3,8 +3,8 @@
 const FIRST_GRAPHS = 50;
 const MORE_GRAPHS = 200;
 const MOST_FRAMES = 4194304;
-const NO_RUNS = "A page of more than 64 files that are runs of their own has their counts and the table of their spans alone: there are no "
-  + "flame graphs here, and nothing else that was traced.";
+const NO_RUNS = "A page of more than 64 files that are runs of their own has their counts, the table of their spans and the flame graph of "
+  + "all: none of a thread is here, and nothing else that was traced.";
 
 const byId = (id) => document.getElementById(id);
 const data = JSON.parse(byId("data").textContent);
@@ -13,6 +13,9 @@ const runs = data.runs ?? [data];
 const isApart = runs.length > 1;
 const report = readRuns(runs);
 const stacks = runs.flatMap((run) => run.stacks);
+// What stands for a thread in the graph of all files, whose stacks begin with the names of process and thread; null where there is none,
+// or where one file has no others.
+const whole = data.graph === undefined || runs.length === 1 ? null : { at: "whole", label: "all files", stacks: data.graph };
 const spans = new SpanTable(data.table, report);
 // All runs of a page have one unit. A page without its runs has no report that says it.
 const unit = runs.length > 0 ? report.unit : spans.unit;
@@ -23,6 +26,7 @@ const unit = runs.length > 0 ? report.unit : spans.unit;
 const narrowed = { file: null, process: null, thread: null, wanted: [], unwanted: [], places: new Set() };
 
 function isNamed(name, wanted = narrowed.wanted) {
+  if (wanted.length === 0 && narrowed.unwanted.length === 0) return true;
   const low = name.toLowerCase();
   return wanted.every((word) => low.includes(word)) && !narrowed.unwanted.some((word) => low.includes(word));
 }
@@ -117,6 +121,7 @@ function narrowTo(file, process, thread) {
   byId("process").value = process?.at ?? "";
   byId("thread").value = thread?.at ?? "";
   narrow();
+  calls.showAgain();
 }
 
 // The tables
@@ -127,7 +132,7 @@ const fileColumns = isApart ? [listedColumn("file", (row) => row.file)] : [];
 const plainName = nameColumn((row) => row.name);
 const total = timeColumn("total", (row) => row.total);
 const open = numberColumn("open", (row) => row.open);
-const id = textColumn("id", (row) => row.id);
+const id = { ...textColumn("id", (row) => row.id), isNone: (row) => row.id === NO_ID };
 const category = textColumn("category", (row) => row.category);
 
 // What rows have together of a number. Of total and outer times nothing is told, since spans stand within others.
@@ -140,13 +145,22 @@ const TOGETHER = {
 function spanTable() {
   const [first, ...others] = keyColumns();
   const isWide = ({ kind }) => kind !== undefined;
-  const columns = [{ ...first, fill: (row) => graphButton(row, first) }, ...others.filter(isWide)];
+  const columns = [{ ...first, fill: (row) => rowButton(row, first) }, ...others.filter(isWide)];
   const numbers = spans.numbers.flatMap(columnsOfNumber);
   const told = spans.numbers.filter((name) => Object.hasOwn(TOGETHER, name));
   const table = new Table("rows", [...columns, ...numbers, ...others.filter((column) => !isWide(column))],
     told.map((name) => ({ ...TOGETHER[name], value: spans.numberIn(name) })));
-  table.onchoose = (row) => graphs.find(row);
+  table.onchoose = (row) => {
+    chooseRow(row);
+    graphs.find(row);
+  };
   return { table, rows: spans.rows, home: byId("names"), isShown: isSpanNarrowedTo };
+}
+
+/** Shows the calls of a row, which may be just a label at a place, and makes it the current one of the table. */
+function chooseRow(row) {
+  tables[0].table.setCurrent(row);
+  calls.show(row);
 }
 
 /** The column of a number; that of self time has a bar, and beside it, where the page has the runs, the share of busy time. */
@@ -165,7 +179,9 @@ const NUMBERS = { process: "pid", thread: "tid" };
 /** A column for each of a key, those of labels first; these are wide. */
 function keyColumns() {
   const named = spans.columns.map((title) => NUMBERS[title]);
-  const columns = spans.columns.filter((title) => !named.includes(title)).map(columnOfKey);
+  const all = spans.columns.filter((title) => !named.includes(title)).map(columnOfKey);
+  const told = columnsWithValues(all, spans.rows);
+  const columns = told.length > 0 ? told : all.slice(0, 1);
   return [...columns.filter(({ kind }) => kind), ...columns.filter(({ kind }) => !kind)];
 }
 
@@ -176,20 +192,19 @@ function columnOfKey(title) {
     const fill = ({ values }) => document.createTextNode(namesOf(values[number].word, values[at].word).label);
     return keyColumn(title, (row) => row.values[number], { fill });
   }
-  const kind = title === "name" ? "name" : "detail";
-  const fill = (row) => valueElement(row.values[at]);
-  return keyColumn(title, (row) => row.values[at], isOfLabel(title) ? { kind, fill } : {});
+  const shorts = spans.shortsOf(title);
+  const fill = (row) => valueElement(row.values[at], isOfLabel(title) ? LONGEST_NAME : LONGEST_LABEL, shorts.get(row.values[at].word));
+  const kind = title === "name" ? "name" : isOfLabel(title) ? "detail" : undefined;
+  return keyColumn(title, (row) => row.values[at], { kind, fill, isNone: (row) => row.values[at] === NOTHING });
 }
 
-/** What a row has in a column, for keys: a click, which the row gets too, opens a graph that has the row's frames. */
-function graphButton(row, column) {
-  const button = element("button", { type: "button", className: "name" }, column.fill(row));
-  button.disabled = !row.place.threads.some(hasGraph);
-  return button;
+/** What a row has in a column, for keys: the row gets the click. */
+function rowButton(row, column) {
+  return element("button", { type: "button", className: "name" }, column.fill(row));
 }
 
 function otherTable(title, rows, columns) {
-  const table = new Table(title.toLowerCase(), [...columns, ...fileColumns]);
+  const table = new Table(title.toLowerCase(), columnsWithValues([...columns, ...fileColumns], rows));
   const home = element("details", {}, element("summary", {}, `${title} (${grouped(rows.length)})`), table.element);
   return { table, rows, home, isShown: isNarrowedTo };
 }
@@ -219,21 +234,31 @@ function byBusyTime(threads) {
   return threads.toSorted((one, other) => compare(other.busy, one.busy));
 }
 
+function stacksOf(thread) {
+  return thread === whole ? whole.stacks : stacks[thread.at];
+}
+
 /** Whether the graph of a thread is left out, since with it the page would have too many frames. */
 function isLeftOut(thread) {
-  return stacks[thread.at] === null;
+  return stacksOf(thread) === null;
 }
 
 function hasGraph(thread) {
-  return !isLeftOut(thread) && stacks[thread.at].length > 0;
+  return !isLeftOut(thread) && stacksOf(thread).length > 0;
 }
 
 const knownLabels = new Map();
 
 /** The labels of a thread's frames, each once. */
 function labelsOf(thread) {
-  if (!knownLabels.has(thread)) knownLabels.set(thread, [...new Set(stacks[thread.at].flatMap(([, labels]) => labels))]);
+  if (!knownLabels.has(thread)) knownLabels.set(thread, [...labelsIn(stacks[thread.at])]);
   return knownLabels.get(thread);
+}
+
+function labelsIn(stacks) {
+  const labels = new Set();
+  for (const [, own] of stacks) for (const label of own) labels.add(label);
+  return labels;
 }
 
 const threadsOfLabels = new Map();
@@ -313,7 +338,23 @@ class Graphs {
     return this.sections.get(thread);
   }
 
+  /** Shows the graph of all files, or that it is left out, above those of threads. */
+  showWhole() {
+    if (whole === null) return;
+    byId("whole").replaceChildren(this.sectionOf(whole));
+    if (hasGraph(whole)) this.sectionOf(whole).open = true;
+  }
+
+  makeWhole() {
+    const id = `thread-${whole.at}`;
+    const parts = [element("strong", {}, whole.label), ", each thread under its name"];
+    if (hasGraph(whole)) return element("details", { id, ontoggle: () => this.graphOf(whole) }, element("summary", {}, ...parts));
+    const why = isLeftOut(whole) ? "left out: too many frames" : `no span covers a ${unit.word}`;
+    return element("p", { id, className: "left-out" }, ...parts, element("span", { className: "hint" }, `, ${why}`));
+  }
+
   makeSection(thread) {
+    if (thread === whole) return this.makeWhole();
     const id = `thread-${thread.at}`;
     const numbers = element("span", { className: "busy" }, `busy ${timeText(thread.busy)}`);
     const open = thread.open > 0n ? `, ${grouped(thread.open)} open` : "";
@@ -328,7 +369,7 @@ class Graphs {
 
   graphOf(thread) {
     if (!this.graphs.has(thread)) {
-      const graph = new Graph(thread, stacks[thread.at], this.isWidestFirst);
+      const graph = new Graph(thread, stacksOf(thread), this.isWidestFirst);
       this.graphs.set(thread, graph);
       this.sectionOf(thread).append(graph.element);
       graph.mark(this.testOf(thread));
@@ -345,25 +386,38 @@ class Graphs {
   /** Opens the graph of a thread, which is listed from now on, however many are busier. */
   open(thread) {
     this.sought.add(thread);
-    if (!this.sectionOf(thread).isConnected) this.show(this.most);
+    if (!this.sectionOf(thread).isConnected && thread !== whole) this.show(this.most);
     this.sectionOf(thread).open = true;
     return this.graphOf(thread);
   }
 
-  /** Opens the graph of the busiest thread that has frames of a row, with these marked; one that is narrowed to comes first. Where the words
-   * are those of the row's parents alone, none may be; then it is listed nevertheless, until something else is narrowed to. */
-  find({ place, label }) {
+  /** Opens and gives the graph of the busiest thread that has frames of a row, with these marked; one that is narrowed to comes first.
+   * Where the words are those of the row's parents alone, none may be; then it is listed nevertheless, until something else is narrowed
+   * to. A page without its runs has the graph of all files. */
+  markRow({ place, label }) {
     const threads = this.threads.filter((thread) => hasGraph(thread) && place.has.has(thread) && isThreadOfPlace(thread));
     const having = threads.filter((thread) => labelsOf(thread).includes(label));
-    const thread = having.find(isThreadNarrowedTo) ?? having[0] ?? threads[0];
-    if (thread === undefined) return;
+    const other = runs.length === 0 && whole !== null && hasGraph(whole) ? whole : undefined;
+    const thread = having.find(isThreadNarrowedTo) ?? having[0] ?? threads[0] ?? other;
+    if (thread === undefined) return null;
     this.found.add(thread);
     const graph = this.open(thread);
-    graph.mark((other) => other === label);
+    graph.mark((own) => own === label);
     graph.reveal();
+    return graph;
+  }
+
+  /** The same, and leads there. */
+  find(row) {
+    const graph = this.markRow(row);
+    if (graph === null) return;
     graph.view.focus({ preventScroll: true });
-    this.sectionOf(thread).scrollIntoView({ block: "start" });
+    this.sectionOf(graph.thread).scrollIntoView({ block: "start" });
     graph.showFocused();
+  }
+
+  leaveZooms() {
+    this.graphs.forEach((graph) => graph.leaveZoom());
   }
 
   /** The frames that are zoomed into, each with its thread. */
@@ -383,6 +437,7 @@ class Graphs {
 
 const tables = [spanTable(), ...otherTables()];
 const graphs = new Graphs();
+const calls = new CallsPanel();
 
 function showUnit() {
   byId("times").textContent = `Times are whole ${unit.word}s.`;
@@ -394,6 +449,7 @@ function showChoices() {
   byId("file").parentElement.hidden = !isApart;
   byId("over-files").hidden = !isApart || spans.columns.includes("file");
   for (const part of document.querySelectorAll(".of-runs")) part.hidden = runs.length === 0;
+  byId("of-graphs").hidden = runs.length === 0 && (whole === null || !hasGraph(whole));
 }
 
 function start() {
@@ -404,17 +460,33 @@ function start() {
   showChoices();
   byId("names").replaceChildren(tables[0].table.element);
   byId("others").replaceChildren(...tables.slice(1).map(({ home }) => home));
+  byId("unstacked").hidden = tables.length === 1;
   byId("words").addEventListener("input", narrow);
   byId("file").addEventListener("change", () => narrowTo(report.files[byId("file").value] ?? null, null, null));
   byId("process").addEventListener("change", () => narrowTo(narrowed.file, report.processes[byId("process").value] ?? null, null));
   byId("thread").addEventListener("change", () => narrowTo(narrowed.file, narrowed.process, report.threads[byId("thread").value] ?? null));
   graphs.showLeftOut();
+  graphs.showWhole();
   showKeptView();
   const busiest = graphs.show().find(hasGraph);
   if (busiest) graphs.sectionOf(busiest).open = true;
   listenForViews();
+  addEventListener("keydown", pressKey);
   document.querySelector("main").ariaBusy = "false";
   performance.mark("ready");
+}
+
+// What keys do wherever nothing is written or chosen.
+const KEYS = {
+  "/": () => byId("words").select(),
+  0: () => graphs.leaveZooms(),
+};
+
+function pressKey(event) {
+  if (event.defaultPrevented || event.ctrlKey || event.altKey || event.metaKey || event.target.matches("input, select")) return;
+  if (!Object.hasOwn(KEYS, event.key)) return;
+  KEYS[event.key]();
+  event.preventDefault();
 }
 
 function listenForViews() {

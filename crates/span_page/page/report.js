@@ -33,10 +33,12 @@ function nameOf(word) {
   return word === "-" ? null : JSON.parse(word);
 }
 
+const NO_ID = "-";
+
 /** An id as it is shown: a local one with its process. */
 function idOf(word) {
   const quote = word.indexOf('"');
-  if (quote < 0) return "-";
+  if (quote < 0) return NO_ID;
   const text = shown(JSON.parse(word.slice(quote)));
   return quote === 0 ? text : `${text} (process ${word.slice(0, quote - 1)})`;
 }

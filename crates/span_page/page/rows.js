@@ -95,7 +95,7 @@ class SpanTable {
     this.inWords = indexesOf(isOfWords);
     this.labelTitle = this.inLabel.map((at) => columns[at]).join(" ") || "label";
     // Values are known by their texts, since most stand in many rows.
-    Object.assign(this, { columns, numbers, counts, values: new Map(), labelled: null });
+    Object.assign(this, { columns, numbers, counts, values: new Map(), labelled: null, shorts: new Map() });
     this.unit = counts.unit === NANOSECONDS.sign ? NANOSECONDS : MICROSECONDS;
     this.rows = lines.map((line) => this.rowOf(membersOf(line)));
     const fileAt = columns.indexOf("file");
@@ -104,12 +104,14 @@ class SpanTable {
     for (const row of this.rows) row.place = this.placeOf(row);
   }
 
-  /** A row: the values of its key, its numbers, its label, and the words that are looked through for it. */
+  /** A row: the values of its key, its numbers, its label, which is null where no column is of labels, and the words that are looked through
+   * for it. */
   rowOf(members) {
     const values = this.columns.map((column) => this.valueOf(members.get(column)));
     const textOf = (indexes) => indexes.map((at) => values[at].word).filter((word) => word !== null).join(" ");
     const numbers = this.numbers.map((name) => BigInt(members.get(name)));
-    return { values, numbers, place: NOWHERE, label: textOf(this.inLabel), words: textOf(this.inWords) };
+    const label = this.inLabel.length > 0 ? textOf(this.inLabel) : null;
+    return { values, numbers, place: NOWHERE, label, words: textOf(this.inWords) };
   }
 
   /** What gives a row's number of this name, which the table has. */
@@ -135,10 +137,31 @@ class SpanTable {
     return parts.filter(({ value }) => value !== NOTHING);
   }
 
+  rowsWithLabel(label) {
+    this.labelled ??= byKey(this.rows, (row) => row.label);
+    return this.labelled.get(label) ?? [];
+  }
+
+  /** The rows with a label at a place, which have the same frames. */
+  rowsOf(label, place) {
+    return this.rowsWithLabel(label).filter((row) => row.place === place);
+  }
+
+  /** The shorter texts of the paths in a column. */
+  shortsOf(column) {
+    if (!this.shorts.has(column)) this.shorts.set(column, shortPaths(this.textsIn(this.columns.indexOf(column))));
+    return this.shorts.get(column);
+  }
+
+  /** The texts in the column at an index, each once. A label that is its only part may stand for a column that isn't there. */
+  textsIn(at) {
+    const values = new Set(at < 0 ? [] : this.rows.map(({ values }) => values[at]));
+    return [...values].filter(({ kind }) => kind === KINDS.text).map(({ word }) => word);
+  }
+
   /** The same of a frame, by its label and its thread. If several rows have that label by other values, the label is the only part. */
   framePartsOf(label, thread) {
-    this.labelled ??= byKey(this.rows, (row) => row.label);
-    const rows = (this.labelled.get(label) ?? []).filter(({ place }) => place.threads.includes(thread));
+    const rows = this.rowsWithLabel(label).filter(({ place }) => place.has.has(thread));
     const [first, ...others] = rows.map((row) => this.partsOf(row));
     return first?.length > 0 && others.every((parts) => areAlike(parts, first)) ? first : plainParts(label);
   }

@@ -1,28 +1,7 @@
 // Tables that are sorted by a click on a column, and show a bounded number of rows.
 
-const FIRST_ROWS = 20;
+const FIRST_ROWS = 10;
 const MORE_ROWS = 200;
-// The most letters of a name, of what stands beside names, and of a name that is shown as a whole.
-const LONGEST_NAME = 160;
-const LONGEST_LABEL = 40;
-const LONGEST_WHOLE = 65536;
-
-function element(tag, properties = {}, ...children) {
-  const made = Object.assign(document.createElement(tag), properties);
-  made.append(...children);
-  return made;
-}
-
-/** A name as an element that keeps the direction of its letters to itself. The whole of a long one is its title. */
-function nameElement(name, most = LONGEST_NAME) {
-  return element("bdi", { title: brief(name, LONGEST_WHOLE) }, brief(name, most));
-}
-
-/** A value of a key. What is neither a text nor a number stands back, so that null is another thing than the text "null". */
-function valueElement({ kind, word }, most = LONGEST_NAME) {
-  if (kind === KINDS.text) return nameElement(word, most);
-  return element("span", { className: kind === KINDS.whole ? "" : "quiet" }, word ?? "-");
-}
 
 /** Draws a bar behind what an element says, as wide as a fraction of it. */
 function setBar(element, width) {
@@ -41,7 +20,8 @@ function tellOfChange(element) {
 
 // The kinds of columns: `value` orders the rows, by `order` if it says how, and `fill` makes what stands in a cell. Processes and threads
 // keep the report's order. Names are the first column, so that what a row is about is seen on any screen. `bar` is how wide a bar is
-// behind a number, as a fraction; it is told the greatest number of all rows that are narrowed to.
+// behind a number, as a fraction; it is told the greatest number of all rows that are narrowed to. `isNone` says of a row that it has
+// nothing in the column.
 
 const numberColumn = (title, value, more) => ({ title, value, kind: "number", fill: (row) => grouped(value(row)), ...more });
 const timeColumn = (title, value, more) => numberColumn(`${title}, ${unit.sign}`, value, more);
@@ -49,6 +29,11 @@ const textColumn = (title, value) => ({ title, value, fill: (row) => nameElement
 const nameColumn = (value, more) => ({ title: "name", value, kind: "name", fill: (row) => nameElement(value(row)), ...more });
 const keyColumn = (title, value, more) => ({ title, value, order: compareValues, fill: (row) => valueElement(value(row), LONGEST_LABEL), ...more });
 const listedColumn = (title, item) => ({ ...textColumn(title, (row) => item(row).label), value: (row) => item(row).at });
+
+/** The columns in which some row has a value. Without rows all are. */
+function columnsWithValues(columns, rows) {
+  return columns.filter(({ isNone }) => isNone === undefined || rows.length === 0 || !rows.every(isNone));
+}
 
 /** A column as an order names it: its title without the unit. */
 function wordOf(column) {
@@ -59,7 +44,7 @@ class Table {
   /** `what` is what the rows are, as "names"; `together` is what is told of all rows. The greatest of the first number lead. */
   constructor(what, columns, together = []) {
     Object.assign(this, { what, columns, together, given: [], rows: [], all: 0 });
-    this.order = null;
+    this.order = this.current = null;
     this.firstOrder = this.order;
     this.status = element("p", { className: "status", role: "status" });
     this.head = element("tr", { role: "row" }, ...columns.map((column) => this.headOf(column)));
@@ -128,12 +113,22 @@ class Table {
   }
 
   rowOf(row) {
-    return element("tr", { role: "row", onclick: () => this.choose(row) }, ...this.columns.map((column) => {
+    return element("tr", { role: "row", ariaCurrent: this.currentOf(row), onclick: () => this.choose(row) }, ...this.columns.map((column) => {
       const cell = element("td", { role: "cell", className: column.kind ?? "" }, column.fill(row));
       cell.dataset.title = brief(column.title, LONGEST_LABEL);
       if (column.bar) setBar(cell, column.bar(row, this.greatest.get(column)));
       return cell;
     }));
+  }
+
+  currentOf(row) {
+    return row === this.current ? "true" : null;
+  }
+
+  /** Makes a row the current one, which is seen where it is shown, now or later. */
+  setCurrent(row) {
+    this.current = row;
+    [...this.body.rows].forEach((shown, at) => { shown.ariaCurrent = this.currentOf(this.rows[at]); });
   }
 
   /** A click on a row chooses it, but for one that ends a selection of text. */

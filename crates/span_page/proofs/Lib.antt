@@ -1,6 +1,7 @@
 pub mod Appending
 pub mod Coding
-pub mod Graphs
+pub mod GraphRows
+mod Graphs
 pub mod Joined
 pub mod LongTexts
 pub mod RunsSoFar

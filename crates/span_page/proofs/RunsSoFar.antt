@@ -1,8 +1,8 @@
 -- A page of runs, with one run more.
 use Rattle.std.specs.List.{join_with_byte}
 use Rattle.std.proofs.Common.{◌≡◌, ℕ, zero, Bool, true, false, List, [], ◌∷◌, ◌++◌, codes, Option, Some, None, refl, sym, ap, subst, ◌∙◌, append_assoc, append-nil, arith}
-use Rattle.span_page.specs.{Unit, SpanColumn, json_text_of, Bounds.IsTooLong, Data.most_frames, Page.{text_before, text_behind}, Runs.{Begins, BegunPage, Holds, ShownRun, TakesRun, are_some, begun_text, page_of_runs, left_behind_run, left_behind_runs, run_json, runs_json}, Safe.{safe, safe_byte}}
-use Rattle.span_page.proofs.{LongTexts.{long-appends, long-beginning}, SafePieces.{safe_after-before, safe-runs}}
+use Rattle.span_page.specs.{Row, Unit, SpanColumn, json_text_of, Bounds.IsTooLong, Data.most_frames, Graph.rows_json, Page.{text_before, text_behind}, Runs.{Begins, BegunPage, Holds, ShownRun, TakesRun, are_some, begun_text, page_of_runs, left_behind_run, left_behind_runs, run_json, runs_json}, Safe.{safe, safe_byte}}
+use Rattle.span_page.proofs.{LongTexts.{long-append, long-appends, long-behind, long-beginning, safe-long}, SafePieces.{safe_after-before, safe-runs}}
 
 -- a comma stands for itself
 safe-comma : (more : List ℕ) → safe (44 ∷ more) ≡ 44 ∷ safe more
@@ -16,8 +16,8 @@ join_with_byte-push first (next ∷ texts) text =
     ap (λ (t : List ℕ). first ++ 44 ∷ t) (join_with_byte-push next texts text) ∙ sym (append_assoc first (44 ∷ join_with_byte 44 (next ∷ texts)) (44 ∷ text))
 
 -- pieces that are appended one by one
-append-page : (h k s a b c t : List ℕ) → ((((h ++ (k ++ s)) ++ a) ++ b) ++ c) ++ t ≡ h ++ ((k ++ (s ++ (a ++ (b ++ c)))) ++ t)
-append-page h k s a b c t = simp append_assoc refl
+append-page : (h k s a b c d e t : List ℕ) → ((((((h ++ (k ++ s)) ++ a) ++ b) ++ c) ++ d) ++ e) ++ t ≡ h ++ ((k ++ (s ++ (a ++ (b ++ (c ++ (d ++ e)))))) ++ t)
+append-page h k s a b c d e t = simp append_assoc refl
 
 -- what is before the data of one more run
 abbrev pub comma : Bool → List ℕ
@@ -91,16 +91,30 @@ module _ (unit : Unit) (labels : List SpanColumn) where
     some = begins.some ∙ many runs one ∙ sym (many runs other);
   }
 
-  -- the text is ended by a table
-  pub page_of_runs-begun : (table : List ℕ) (runs : List ShownRun) →
-      (((begun_text unit labels runs ++ codes "],\"table\":") ++ safe (json_text_of table)) ++ codes "}") ++ text_behind ≡ page_of_runs unit labels table runs
-  unfolding page_of_runs
-  page_of_runs-begun table runs =
-      let texts = runs_json unit labels most_frames runs in
-      append-page text_before (codes "{\"runs\":[") (safe (join_with_byte 44 texts)) (codes "],\"table\":") (safe (json_text_of table)) (codes "}") text_behind
-      ∙ ap (λ (t : List ℕ). text_before ++ (t ++ text_behind)) (sym (safe-runs texts table))
+  -- the text is ended by a table, and by the graph of stacks that were added
+  module _ (table : List ℕ) (stacks : List Row) (runs : List ShownRun) where
+    abbrev pub with_table : List ℕ
+    with_table = (begun_text unit labels runs ++ codes "],\"table\":") ++ safe (json_text_of table)
 
-  -- as it is with whatever table
-  pub page_of_runs-long : (table : List ℕ) (runs : List ShownRun) → IsTooLong (begun_text unit labels runs) → IsTooLong (page_of_runs unit labels table runs)
-  page_of_runs-long table runs long =
-      subst IsTooLong (page_of_runs-begun table runs) (long-appends (begun_text unit labels runs) (codes "],\"table\":") (safe (json_text_of table)) (codes "}") text_behind long)
+    abbrev pub with_graph : List ℕ
+    with_graph = (with_table ++ codes ",\"graph\":") ++ safe (rows_json stacks)
+
+    pub page_of_runs-begun : (with_graph ++ codes "}") ++ text_behind ≡ page_of_runs unit labels table stacks runs
+    unfolding page_of_runs
+    page_of_runs-begun =
+        let texts = runs_json unit labels most_frames runs in
+        append-page text_before (codes "{\"runs\":[") (safe (join_with_byte 44 texts)) (codes "],\"table\":") (safe (json_text_of table)) (codes ",\"graph\":") (safe (rows_json stacks)) (codes "}") text_behind
+        ∙ ap (λ (t : List ℕ). text_before ++ (t ++ text_behind)) (sym (safe-runs texts table (rows_json stacks)))
+
+    -- it is too long if so much of it is
+    pub page_of_runs-long_graph : IsTooLong with_graph → IsTooLong (page_of_runs unit labels table stacks runs)
+    page_of_runs-long_graph long = subst IsTooLong page_of_runs-begun (long-append (with_graph ++ codes "}") text_behind (long-append with_graph (codes "}") long))
+
+    pub page_of_runs-long_rows : IsTooLong (rows_json stacks) → IsTooLong (page_of_runs unit labels table stacks runs)
+    page_of_runs-long_rows long = page_of_runs-long_graph (long-behind (with_table ++ codes ",\"graph\":") (safe (rows_json stacks)) (safe-long (rows_json stacks) long))
+
+    pub page_of_runs-long_table : IsTooLong with_table → IsTooLong (page_of_runs unit labels table stacks runs)
+    page_of_runs-long_table long = subst IsTooLong page_of_runs-begun (long-appends with_table (codes ",\"graph\":") (safe (rows_json stacks)) (codes "}") text_behind long)
+
+    pub page_of_runs-long : IsTooLong (begun_text unit labels runs) → IsTooLong (page_of_runs unit labels table stacks runs)
+    page_of_runs-long long = page_of_runs-long_table (long-append (begun_text unit labels runs ++ codes "],\"table\":") (safe (json_text_of table)) (long-append (begun_text unit labels runs) (codes "],\"table\":") long))

@@ -140,17 +140,19 @@ safe-data unit labels table files ends journal =
     ∙ ap (λ (t : List ℕ). (codes "{\"report\":" ++ safe (json_text_of (report_of unit journal))) ++ t) (safe-table table rest)
 
 -- the data of runs, from their pieces
-pub safe-runs : (texts : List (List ℕ)) (table : List ℕ) →
-    safe (codes "{\"runs\":" ++ (array_of texts ++ (codes ",\"table\":" ++ (json_text_of table ++ codes "}"))))
-    ≡ codes "{\"runs\":[" ++ (safe (join_with_byte 44 texts) ++ (codes "],\"table\":" ++ (safe (json_text_of table) ++ codes "}")))
+pub safe-runs : (texts : List (List ℕ)) (table graph : List ℕ) →
+    safe (codes "{\"runs\":" ++ (array_of texts ++ (codes ",\"table\":" ++ (json_text_of table ++ (codes ",\"graph\":" ++ (graph ++ codes "}"))))))
+    ≡ codes "{\"runs\":[" ++ (safe (join_with_byte 44 texts) ++ (codes "],\"table\":" ++ (safe (json_text_of table) ++ (codes ",\"graph\":" ++ (safe graph ++ codes "}")))))
 unfolding safe_byte
-safe-runs texts table =
+safe-runs texts table graph =
     let runs = join_with_byte 44 texts in
-    let behind = codes ",\"table\":" ++ (json_text_of table ++ codes "}") in
+    let last = codes ",\"graph\":" ++ (graph ++ codes "}") in
+    let behind = codes ",\"table\":" ++ (json_text_of table ++ last) in
     ap (λ (t : List ℕ). codes "{\"runs\":[" ++ t) (
     ap safe (append_assoc runs (93 ∷ []) behind)
     ∙ safe_after-before 93 refl refl refl behind zero runs (omega arith)
-    ∙ ap (λ (t : List ℕ). safe runs ++ (codes "],\"table\":" ++ t)) (safe-json table (codes "}")))
+    ∙ ap (λ (t : List ℕ). safe runs ++ (codes "],\"table\":" ++ t)) (safe-json table last
+    ∙ ap (λ (t : List ℕ). safe (json_text_of table) ++ (codes ",\"graph\":" ++ t)) (safe_after-before 125 refl refl refl [] zero graph (omega arith))))
 
 -- pieces that are appended one by one
 pub append-four : (o a b c d : List ℕ) → (((o ++ a) ++ b) ++ c) ++ d ≡ o ++ (a ++ (b ++ (c ++ d)))

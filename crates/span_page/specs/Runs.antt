@@ -1,6 +1,6 @@
 -- A page of several runs.
 use Rattle.std.specs.{List.join_with_byte, Prelude.{◌≡◌, ℕ, Bool, true, false, List, [], ◌∷◌, ◌++◌, codes, Option, Some, None}}
-use Rattle.span_page.specs.{Unit, Entry, rows_by_process, FileEnd, Input, json_text_of, report_of, SpanColumn, Bounds.IsTooLong, Data.{array_of, left_behind, most_frames, rest_of, threads_of}, Page.{text_before, text_behind}, Safe.safe}
+use Rattle.span_page.specs.{Unit, Entry, rows_by_process, FileEnd, Input, Row, json_text_of, report_of, SpanColumn, Bounds.IsTooLong, Data.{array_of, left_behind, most_frames, rest_of, threads_of}, Graph.rows_json, Page.{text_before, text_behind}, Safe.safe}
 
 -- a run as a page shows it: its files, how they ended, and the journal
 pub record ShownRun : Type 0 where
@@ -28,14 +28,15 @@ module _ (unit : Unit) (labels : List SpanColumn) where
   runs_json left [] = []
   runs_json left (run ∷ later) = run_json left run ∷ runs_json (left_behind_run labels left run) later
 
--- the data of the runs, and the text of a table of spans
-abbrev pub runs_data : Unit → List SpanColumn → List ℕ → List ShownRun → List ℕ
-runs_data unit labels table runs =
-    codes "{\"runs\":" ++ (array_of (runs_json unit labels most_frames runs) ++ (codes ",\"table\":" ++ (json_text_of table ++ codes "}")))
+-- the data of the runs, the text of a table of spans, and the graph of stacks that were added
+abbrev pub runs_data : Unit → List SpanColumn → List ℕ → List Row → List ShownRun → List ℕ
+runs_data unit labels table stacks runs =
+    codes "{\"runs\":" ++ (array_of (runs_json unit labels most_frames runs)
+    ++ (codes ",\"table\":" ++ (json_text_of table ++ (codes ",\"graph\":" ++ (rows_json stacks ++ codes "}")))))
 
 -- a fixed text, the data, and another fixed text
-unfoldable pub page_of_runs : Unit → List SpanColumn → List ℕ → List ShownRun → List ℕ
-page_of_runs unit labels table runs = text_before ++ (safe (runs_data unit labels table runs) ++ text_behind)
+unfoldable pub page_of_runs : Unit → List SpanColumn → List ℕ → List Row → List ShownRun → List ℕ
+page_of_runs unit labels table stacks runs = text_before ++ (safe (runs_data unit labels table stacks runs) ++ text_behind)
 
 -- a page of runs so far: its text, how many frames are left, and whether it has a run
 pub record BegunPage : Type 0 where

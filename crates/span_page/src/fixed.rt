@@ -4,7 +4,7 @@ pub(crate) const BEFORE: &str = r#"<!DOCTYPE html>
 <html lang="en">
 <head>
 <meta charset="utf-8">
-<meta http-equiv="Content-Security-Policy" content="default-src 'none'; script-src 'sha256-4LETTrHSIMVoUpVROapfMMRsXeGKGp1/B3bwPUuLXUI='; style-src 'sha256-aYT71exuZWPhRoFUsm5jq1AgXnbv0Fm8CVguN8QJ2Dk='; base-uri 'none'; form-action 'none'">
+<meta http-equiv="Content-Security-Policy" content="default-src 'none'; script-src 'sha256-XgQe1DxWKbXPxZie0Lguxq4g2iQq90rsgPuiWmCAlpc='; style-src 'sha256-NEwf2LvAj4k+0ewAZqHw0ciUOPUZDFTrfVipzsqD2W4='; base-uri 'none'; form-action 'none'">
 <meta name="viewport" content="width=device-width, initial-scale=1">
 <meta name="color-scheme" content="light dark">
 <title>tracebook</title>
@@ -21,12 +21,15 @@ pub(crate) const BEFORE: &str = r#"<!DOCTYPE html>
   }
 }
 html { scroll-padding-top: 4rem; }
+html:has(#calls:not([hidden])) { scroll-padding-bottom: 35vh; }
 * { box-sizing: border-box; }
 body { margin: 0 auto; max-width: 1500px; padding: 0 1.25rem 3rem; background: var(--paper); color: var(--text);
   font: 14px/1.45 system-ui, "Segoe UI", "Liberation Sans", "DejaVu Sans", sans-serif; }
 header { display: flex; flex-wrap: wrap; align-items: baseline; gap: 0 1.5rem; padding-top: 1rem; }
 h1 { font-size: 1.3rem; margin: 0; }
-h2 { font-size: 1.1rem; margin: 1.5rem 0 0.25rem; }
+h2 { font-size: 1.1rem; margin: 0; white-space: nowrap; }
+.title { display: flex; flex-wrap: wrap; align-items: baseline; gap: 0 1rem; margin: 1rem 0 0.25rem; }
+.title p { flex: 1; min-width: min(30rem, 100%); }
 p { margin: 0.25rem 0; }
 #counts { display: flex; flex-wrap: wrap; gap: 0 1.1rem; color: var(--quiet); }
 #counts > * { min-width: 0; overflow-wrap: anywhere; }
@@ -64,16 +67,21 @@ td.number { min-width: 5.5rem; }
 td.barred { min-width: 11rem; }
 .barred { background: linear-gradient(var(--bar-color), var(--bar-color)) left / var(--bar) 100% no-repeat; }
 td { max-width: 22rem; overflow: hidden; text-overflow: ellipsis; }
+/* Names are divided where they say so alone; in narrow columns they aren't. */
+bdi { white-space: nowrap; }
+wbr, .long { white-space: normal; }
+.long { display: inline-block; max-width: 100%; vertical-align: top; overflow-wrap: anywhere; }
+td:not(.name, .detail) wbr { display: none; }
 td.name { width: 99%; min-width: 18rem; max-width: 40rem; white-space: normal; overflow-wrap: anywhere; }
 td.name:has(+ td.detail) { width: 20%; min-width: 8rem; }
 td.detail { width: 60%; min-width: 14rem; max-width: 40rem; white-space: normal; overflow-wrap: anywhere; }
 #names tbody tr { cursor: pointer; }
+tr[aria-current] { background-color: var(--ground); }
 button.name { border: 0; padding: 0; line-height: inherit; vertical-align: top; background: none; text-align: left; color: var(--link); }
-button.name:disabled { color: inherit; }
-button.name:hover:enabled { text-decoration: underline; }
+button.name:hover { text-decoration: underline; }
 details, .left-out { margin: 0.35rem 0; }
 summary { padding: 0.2rem 0.3rem; cursor: pointer; overflow-wrap: anywhere; }
-#graphs > details, #graphs > .left-out, #others > details { border: 1px solid var(--line); border-radius: 6px; padding: 0.2rem 0.6rem; }
+#whole > details, #whole > .left-out, #graphs > details, #graphs > .left-out, #others > details { border: 1px solid var(--line); border-radius: 6px; padding: 0.2rem 0.6rem; }
 .busy { display: inline-block; min-width: 17rem; margin-right: 0.8rem; padding: 0 0.4rem; font-variant-numeric: tabular-nums; }
 .graph { padding: 0.3rem 0 0.4rem; }
 .steps { display: flex; gap: 0.5rem; align-items: start; }
@@ -87,6 +95,15 @@ summary { padding: 0.2rem 0.3rem; cursor: pointer; overflow-wrap: anywhere; }
 .view { overflow-x: hidden; overflow-y: auto; }
 .spacer { position: relative; }
 canvas { position: sticky; top: 0; display: block; width: 100%; }
+/* What a row calls stays in sight, below what is scrolled to. */
+#calls { position: sticky; bottom: 0; z-index: 1; max-height: 35vh; overflow-y: auto; margin: 1rem -0.6rem 0; padding: 0 0.6rem 0.3rem;
+  background: var(--paper); border: 1px solid var(--quiet); border-radius: 6px 6px 0 0; }
+#calls .title { position: sticky; top: 0; z-index: 1; margin: 0; padding: 0.4rem 0; background: var(--paper); }
+#calls-of { overflow-wrap: anywhere; }
+#calls-lists:not([hidden]) { display: grid; grid-template-columns: 1fr 1fr; gap: 0 2rem; }
+#calls-lists > * { min-width: 0; }
+#calls td.name { min-width: 10rem; }
+#calls td.barred { min-width: 8rem; }
 .unseen { position: absolute; width: 1px; height: 1px; overflow: hidden; clip-path: inset(50%); white-space: nowrap; }
 /* On a narrow screen a row stands as a few lines: its name, the number that has a bar, and the others, each behind its title. */
 @media screen and (max-width: 60rem) {
@@ -98,7 +115,9 @@ canvas { position: sticky; top: 0; display: block; width: 100%; }
   tr { display: flex; flex-wrap: wrap; gap: 0 1rem; padding: 0.35rem 0; border-bottom: 1px solid var(--line); }
   th, td, td.name, td.name:has(+ td.detail), td.detail, td.number, td.barred { width: auto; min-width: 0; max-width: 100%; padding: 0; border: 0; text-align: left;
     white-space: normal; overflow-wrap: anywhere; }
-  td.name, td.detail, td.barred { flex: 0 0 100%; }
+  td.name, td.detail, td.barred, #calls td.name, #calls td.barred { flex: 0 0 100%; min-width: 0; }
+  td:not(.name, .detail) wbr { display: inline; }
+  #calls-lists:not([hidden]) { display: block; }
   td:empty { display: none; }
   td:not(.name)::before { content: attr(data-title) " "; color: var(--quiet); }
   td.barred::before { color: inherit; }
@@ -115,6 +134,9 @@ canvas { position: sticky; top: 0; display: block; width: 100%; }
   td { min-width: 4.5rem; max-width: none; overflow-wrap: anywhere; }
   td.name, td.detail, td.name:has(+ td.detail) { width: auto; min-width: 7rem; max-width: none; }
   td.number, td.barred { min-width: 0; white-space: nowrap; }
+  td:not(.name, .detail) wbr { display: inline; }
+  #calls { position: static; max-height: none; overflow: visible; margin: 1rem 0 0; padding: 0; border: 0; }
+  #calls-lists:not([hidden]) { display: block; }
   /* Three times, whose titles have a unit behind a comma, may be wider than paper. */
   tr:has([data-title*=","] ~ [data-title*=","] ~ [data-title*=","]) td[data-title*=","] { min-width: 4.5rem; white-space: normal; }
   th button { padding: 0; }
@@ -122,7 +144,7 @@ canvas { position: sticky; top: 0; display: block; width: 100%; }
   .barred { print-color-adjust: exact; }
   .told .label { max-height: none; }
   canvas { height: auto !important; }
-  .more, p.hint, .tip, .steps button { display: none; }
+  .more, p.hint, .tip, .steps button, #calls-close { display: none; }
 }
 </style>
 </head>
@@ -136,28 +158,35 @@ canvas { position: sticky; top: 0; display: block; width: 100%; }
 <noscript><p class="warning">This page shows its numbers with a script, and scripts are off.</p></noscript>
 <section id="warnings" aria-label="Warnings" hidden></section>
 <div id="narrowing" role="search">
-<label>Words <input id="words" type="search" maxlength="2000" spellcheck="false" autocomplete="off" placeholder="to find, or -word to leave out"></label>
+<label>Words <input id="words" type="search" maxlength="2000" spellcheck="false" autocomplete="off" aria-keyshortcuts="/" placeholder="to find, or -word to leave out; key: /"></label>
 <label hidden>File <select id="file"></select></label>
 <label class="of-runs">Process <select id="process"></select></label>
 <label class="of-runs">Thread <select id="thread"></select></label>
 </div>
 <section aria-labelledby="names-title">
-<h2 id="names-title">Spans</h2>
-<p class="hint"><span id="times"></span> A click on a column sorts<span class="of-runs">; a click on a row marks its frames in a flame graph</span>. The address shows the view again.
-<span id="over-files" hidden>Rows are of all files together; with the column file (--group-by) each file has its own.</span></p>
+<div class="title"><h2 id="names-title">Spans</h2>
+<p class="hint"><span id="times"></span> A click on a column sorts<span class="of-runs">; a click on a row shows its callers and callees, and its frames in a flame graph</span>. The address shows the view again.
+<span id="over-files" hidden>Rows are of all files together; with the column file (--group-by) each file has its own.</span></p></div>
 <div id="names"></div>
 </section>
 <section aria-labelledby="graphs-title">
-<h2 id="graphs-title">Flame graphs</h2>
-<p class="hint of-runs"><label>Order
+<div class="title"><h2 id="graphs-title">Flame graphs</h2>
+<p class="hint" id="of-graphs"><label>Order
 <select id="order"><option value="widest">widest first</option><option value="name">by name</option></select></label>
-A click or Enter zooms into a frame, Escape or Backspace goes back, arrow keys move.</p>
+A click or Enter zooms into a frame, Ctrl and the wheel at the pointer; Escape or Backspace goes back, 0 leaves the zoom, arrow keys move.</p></div>
 <p id="left-out" class="warning" hidden></p>
+<div id="whole"></div>
 <div id="graphs"></div>
 <p id="graphs-shown" class="status" role="status"></p>
 <button id="more-graphs" class="more" type="button" hidden>Show more threads</button>
 </section>
+<p id="unstacked" class="hint" hidden>What follows stands in no stack, so it has no callers and callees.</p>
 <div id="others"></div>
+<section id="calls" aria-labelledby="calls-title" hidden>
+<div class="title"><h2 id="calls-title" tabindex="-1">Callers and callees</h2><p id="calls-of"></p><button id="calls-close" type="button">Close</button></div>
+<div id="calls-notes"></div>
+<div id="calls-lists"></div>
+</section>
 </main>
 <script type="application/json" id="data">"#;
 
@@ -198,10 +227,12 @@ function nameOf(word) {
   return word === "-" ? null : JSON.parse(word);
 }
 
+const NO_ID = "-";
+
 /** An id as it is shown: a local one with its process. */
 function idOf(word) {
   const quote = word.indexOf('"');
-  if (quote < 0) return "-";
+  if (quote < 0) return NO_ID;
   const text = shown(JSON.parse(word.slice(quote)));
   return quote === 0 ? text : `${text} (process ${word.slice(0, quote - 1)})`;
 }
@@ -445,7 +476,7 @@ class SpanTable {
     this.inWords = indexesOf(isOfWords);
     this.labelTitle = this.inLabel.map((at) => columns[at]).join(" ") || "label";
     // Values are known by their texts, since most stand in many rows.
-    Object.assign(this, { columns, numbers, counts, values: new Map(), labelled: null });
+    Object.assign(this, { columns, numbers, counts, values: new Map(), labelled: null, shorts: new Map() });
     this.unit = counts.unit === NANOSECONDS.sign ? NANOSECONDS : MICROSECONDS;
     this.rows = lines.map((line) => this.rowOf(membersOf(line)));
     const fileAt = columns.indexOf("file");
@@ -454,12 +485,14 @@ class SpanTable {
     for (const row of this.rows) row.place = this.placeOf(row);
   }
 
-  /** A row: the values of its key, its numbers, its label, and the words that are looked through for it. */
+  /** A row: the values of its key, its numbers, its label, which is null where no column is of labels, and the words that are looked through
+   * for it. */
   rowOf(members) {
     const values = this.columns.map((column) => this.valueOf(members.get(column)));
     const textOf = (indexes) => indexes.map((at) => values[at].word).filter((word) => word !== null).join(" ");
     const numbers = this.numbers.map((name) => BigInt(members.get(name)));
-    return { values, numbers, place: NOWHERE, label: textOf(this.inLabel), words: textOf(this.inWords) };
+    const label = this.inLabel.length > 0 ? textOf(this.inLabel) : null;
+    return { values, numbers, place: NOWHERE, label, words: textOf(this.inWords) };
   }
 
   /** What gives a row's number of this name, which the table has. */
@@ -485,10 +518,31 @@ class SpanTable {
     return parts.filter(({ value }) => value !== NOTHING);
   }
 
+  rowsWithLabel(label) {
+    this.labelled ??= byKey(this.rows, (row) => row.label);
+    return this.labelled.get(label) ?? [];
+  }
+
+  /** The rows with a label at a place, which have the same frames. */
+  rowsOf(label, place) {
+    return this.rowsWithLabel(label).filter((row) => row.place === place);
+  }
+
+  /** The shorter texts of the paths in a column. */
+  shortsOf(column) {
+    if (!this.shorts.has(column)) this.shorts.set(column, shortPaths(this.textsIn(this.columns.indexOf(column))));
+    return this.shorts.get(column);
+  }
+
+  /** The texts in the column at an index, each once. A label that is its only part may stand for a column that isn't there. */
+  textsIn(at) {
+    const values = new Set(at < 0 ? [] : this.rows.map(({ values }) => values[at]));
+    return [...values].filter(({ kind }) => kind === KINDS.text).map(({ word }) => word);
+  }
+
   /** The same of a frame, by its label and its thread. If several rows have that label by other values, the label is the only part. */
   framePartsOf(label, thread) {
-    this.labelled ??= byKey(this.rows, (row) => row.label);
-    const rows = (this.labelled.get(label) ?? []).filter(({ place }) => place.threads.includes(thread));
+    const rows = this.rowsWithLabel(label).filter(({ place }) => place.has.has(thread));
     const [first, ...others] = rows.map((row) => this.partsOf(row));
     return first?.length > 0 && others.every((parts) => areAlike(parts, first)) ? first : plainParts(label);
   }
@@ -503,14 +557,61 @@ function areAlike(parts, others) {
   return parts.length === others.length && parts.every(({ column, value }, at) => column === others[at].column && value === others[at].value);
 }
 
-// Tables that are sorted by a click on a column, and show a bounded number of rows.
+// Paths as a column shows them: without the folder that nearly all of them lie in, which is found once for the column. Since a trace has
+// paths of several trees, as a system's headers and a project's, each tree has such a folder.
 
-const FIRST_ROWS = 20;
-const MORE_ROWS = 200;
-// The most letters of a name, of what stands beside names, and of a name that is shown as a whole.
+const NEARLY_ALL = 0.95;
+const LONGEST_PATH = 4096; // letters, more than which no system opens
+
+const isPath = (text) => text.length <= LONGEST_PATH && /^\.{0,2}\//.test(text);
+
+/** The steps of a path where those that lead up are taken: `/a/b/../c` has those of `/a/c`. */
+function stepsOf(path) {
+  const steps = [];
+  for (const step of path.split("/")) {
+    if (step === ".." && steps.length > 1 && steps.at(-1) !== "..") steps.pop();
+    else if (step !== "." && (step !== "" || steps.length === 0)) steps.push(step);
+  }
+  return steps;
+}
+
+/** How many steps lead to the deepest folder that has nearly all of some paths below it, and which of them those are. */
+function deepestOf(paths) {
+  let below = paths;
+  for (let depth = 0; ; depth += 1) {
+    const folders = byKey(below.filter(({ steps }) => steps.length > depth + 1), ({ steps }) => steps[depth]);
+    const next = [...folders.values()].find(({ length }) => length >= NEARLY_ALL * paths.length);
+    if (next === undefined) return { depth, below };
+    below = next;
+  }
+}
+
+/** The shorter texts of the paths among some different ones. Of two paths with one shorter text neither has it. */
+function shortPaths(texts) {
+  const paths = texts.filter(isPath).map((text) => ({ text, steps: stepsOf(text) }));
+  const owners = new Map();
+  for (const tree of byKey(paths, ({ steps }) => steps.slice(0, 2).join("/")).values()) {
+    const { depth, below } = tree.length > 1 ? deepestOf(tree) : { below: [] };
+    for (const { text, steps } of below) {
+      const short = `\u2026/${steps.slice(depth).join("/")}`;
+      owners.set(short, owners.has(short) ? null : text);
+    }
+  }
+  return new Map([...owners].filter(([, text]) => text !== null).map(([short, text]) => [text, short]));
+}
+
+// Names as they stand on the page: as text alone, cut where they are long, and divided where a line may end.
+
+// The most letters of a name, of what stands beside names, of a name that is shown as a whole, of one that is divided, and of a part of it
+// that stays on one line.
 const LONGEST_NAME = 160;
 const LONGEST_LABEL = 40;
 const LONGEST_WHOLE = 65536;
+const LONGEST_DIVIDED = 1024;
+const LONGEST_PART = 20;
+
+// Where a line may end: behind `::`, `/` and `_`, but for an `_` that begins a word, and before a capital that begins one.
+const ENDS = /(?<=::|\/)|(?<=[\p{L}\p{N}]_+)(?!_)|(?<=[^\p{Lu}_])(?=\p{Lu})|(?<=\p{Lu})(?=\p{Lu}\p{Ll})/u;
 
 function element(tag, properties = {}, ...children) {
   const made = Object.assign(document.createElement(tag), properties);
@@ -518,16 +619,32 @@ function element(tag, properties = {}, ...children) {
   return made;
 }
 
-/** A name as an element that keeps the direction of its letters to itself. The whole of a long one is its title. */
-function nameElement(name, most = LONGEST_NAME) {
-  return element("bdi", { title: brief(name, LONGEST_WHOLE) }, brief(name, most));
+/** A part of a name. A long one may be divided as other texts are, but just where a whole line has no room for it. */
+function partOf(text) {
+  return text.length > LONGEST_PART ? element("span", { className: "long" }, text) : text;
+}
+
+/** A text, with an element between the parts of which each may stand on a line of its own. */
+function divided(text) {
+  return text.split(ENDS).flatMap((part, at) => (at === 0 ? [partOf(part)] : [element("wbr"), partOf(part)]));
+}
+
+/** A name as an element that keeps the direction of its letters to itself, by a shorter text if it has one. The whole is its title. */
+function nameElement(name, most = LONGEST_NAME, short = name) {
+  const text = brief(short, most);
+  return element("bdi", { title: brief(name, LONGEST_WHOLE) }, ...(text.length > LONGEST_DIVIDED ? [partOf(text)] : divided(text)));
 }
 
 /** A value of a key. What is neither a text nor a number stands back, so that null is another thing than the text "null". */
-function valueElement({ kind, word }, most = LONGEST_NAME) {
-  if (kind === KINDS.text) return nameElement(word, most);
+function valueElement({ kind, word }, most = LONGEST_NAME, short = word) {
+  if (kind === KINDS.text) return nameElement(word, most, short);
   return element("span", { className: kind === KINDS.whole ? "" : "quiet" }, word ?? "-");
 }
+
+// Tables that are sorted by a click on a column, and show a bounded number of rows.
+
+const FIRST_ROWS = 10;
+const MORE_ROWS = 200;
 
 /** Draws a bar behind what an element says, as wide as a fraction of it. */
 function setBar(element, width) {
@@ -546,7 +663,8 @@ function tellOfChange(element) {
 
 // The kinds of columns: `value` orders the rows, by `order` if it says how, and `fill` makes what stands in a cell. Processes and threads
 // keep the report's order. Names are the first column, so that what a row is about is seen on any screen. `bar` is how wide a bar is
-// behind a number, as a fraction; it is told the greatest number of all rows that are narrowed to.
+// behind a number, as a fraction; it is told the greatest number of all rows that are narrowed to. `isNone` says of a row that it has
+// nothing in the column.
 
 const numberColumn = (title, value, more) => ({ title, value, kind: "number", fill: (row) => grouped(value(row)), ...more });
 const timeColumn = (title, value, more) => numberColumn(`${title}, ${unit.sign}`, value, more);
@@ -554,6 +672,11 @@ const textColumn = (title, value) => ({ title, value, fill: (row) => nameElement
 const nameColumn = (value, more) => ({ title: "name", value, kind: "name", fill: (row) => nameElement(value(row)), ...more });
 const keyColumn = (title, value, more) => ({ title, value, order: compareValues, fill: (row) => valueElement(value(row), LONGEST_LABEL), ...more });
 const listedColumn = (title, item) => ({ ...textColumn(title, (row) => item(row).label), value: (row) => item(row).at });
+
+/** The columns in which some row has a value. Without rows all are. */
+function columnsWithValues(columns, rows) {
+  return columns.filter(({ isNone }) => isNone === undefined || rows.length === 0 || !rows.every(isNone));
+}
 
 /** A column as an order names it: its title without the unit. */
 function wordOf(column) {
@@ -564,7 +687,7 @@ class Table {
   /** `what` is what the rows are, as "names"; `together` is what is told of all rows. The greatest of the first number lead. */
   constructor(what, columns, together = []) {
     Object.assign(this, { what, columns, together, given: [], rows: [], all: 0 });
-    this.order = null;
+    this.order = this.current = null;
     this.firstOrder = this.order;
     this.status = element("p", { className: "status", role: "status" });
     this.head = element("tr", { role: "row" }, ...columns.map((column) => this.headOf(column)));
@@ -633,12 +756,22 @@ class Table {
   }
 
   rowOf(row) {
-    return element("tr", { role: "row", onclick: () => this.choose(row) }, ...this.columns.map((column) => {
+    return element("tr", { role: "row", ariaCurrent: this.currentOf(row), onclick: () => this.choose(row) }, ...this.columns.map((column) => {
       const cell = element("td", { role: "cell", className: column.kind ?? "" }, column.fill(row));
       cell.dataset.title = brief(column.title, LONGEST_LABEL);
       if (column.bar) setBar(cell, column.bar(row, this.greatest.get(column)));
       return cell;
     }));
+  }
+
+  currentOf(row) {
+    return row === this.current ? "true" : null;
+  }
+
+  /** Makes a row the current one, which is seen where it is shown, now or later. */
+  setCurrent(row) {
+    this.current = row;
+    [...this.body.rows].forEach((shown, at) => { shown.ariaCurrent = this.currentOf(this.rows[at]); });
   }
 
   /** A click on a row chooses it, but for one that ends a selection of text. */
@@ -657,10 +790,26 @@ class Table {
 
 // The frames of a thread's stacks, and the boxes as which they are drawn: a frame is as wide as its time.
 
+// What most frames have under them: one list for all of them, since a page may have millions.
+const NO_FRAMES = Object.freeze([]);
+
 /** A frame, which stands at a place among those of its thread; those under it are the next ones, and `size` counts it and them. */
 class Frame {
   constructor(name, parent, at) {
-    Object.assign(this, { name, parent, at, size: 1, level: parent ? parent.level + 1 : 0, self: 0n, total: 0n, children: [] });
+    this.name = name;
+    this.parent = parent;
+    this.at = at;
+    this.size = 1;
+    this.level = parent === null ? 0 : parent.level + 1;
+    this.self = 0n;
+    this.total = 0n;
+    this.children = NO_FRAMES;
+  }
+
+  /** Takes a frame under it. */
+  take(frame) {
+    if (this.children === NO_FRAMES) this.children = [frame];
+    else this.children.push(frame);
   }
 
   /** Whether it is another frame or stands under it. */
@@ -677,7 +826,7 @@ function framesOf(label, stacks) {
     stack.length = shared + 1;
     for (const name of names) {
       const frame = new Frame(name, stack.at(-1), frames.length);
-      frame.parent.children.push(frame);
+      frame.parent.take(frame);
       frames.push(frame);
       stack.push(frame);
     }
@@ -689,7 +838,8 @@ function framesOf(label, stacks) {
 
 /** Gives each frame the time of those under it, and their number. */
 function addUp(frames) {
-  for (const frame of frames.toReversed()) {
+  for (let at = frames.length - 1; at >= 0; at -= 1) {
+    const frame = frames[at];
     frame.total += frame.self;
     if (frame.parent) {
       frame.parent.total += frame.total;
@@ -698,26 +848,28 @@ function addUp(frames) {
   }
 }
 
-/** The boxes of the children of a box, side by side; what is narrower than a pixel has none. */
-function boxesUnder({ frame, x, width }, isWidestFirst) {
+/** The boxes of the children of a box, side by side; what is narrower than a pixel, or lies outside of so many pixels, has none. */
+function boxesUnder({ frame, x, width }, room, isWidestFirst) {
   const children = isWidestFirst ? frame.children.toSorted((one, other) => compare(other.total, one.total)) : frame.children;
   const boxes = [];
   let before = 0n;
   for (const child of children) {
     const own = width * fraction(child.total, frame.total);
-    if (own >= 1) boxes.push({ frame: child, x: x + width * fraction(before, frame.total), width: own });
+    const left = x + width * fraction(before, frame.total);
+    if (own >= 1 && left < room && left + own > 0) boxes.push({ frame: child, x: left, width: own });
     before += child.total;
   }
   return boxes;
 }
 
-/** The boxes of a frame, of those around it and of all under it, level by level. */
-function levelsOf(zoomed, width, isWidestFirst) {
+/** The boxes of a frame, which begins at a place and is so wide, of those around it and of all under it that lie in so many pixels, level
+ * by level. */
+function levelsOf(zoomed, { x, width }, room, isWidestFirst) {
   const levels = [];
-  for (let frame = zoomed; frame; frame = frame.parent) levels.push([{ frame, x: 0, width }]);
+  for (let frame = zoomed; frame; frame = frame.parent) levels.push([{ frame, x, width }]);
   levels.reverse();
   for (;;) {
-    const next = levels.at(-1).flatMap((box) => boxesUnder(box, isWidestFirst));
+    const next = levels.at(-1).flatMap((box) => boxesUnder(box, room, isWidestFirst));
     if (next.length === 0) return levels;
     levels.push(next);
   }
@@ -729,6 +881,8 @@ const LEVEL = 20; // the height of a level in CSS pixels
 const MOST_SEEN = 32; // levels; what lies below them is reached by scrolling
 const LETTER = 6.7; // the width of a letter of the frames' font
 const GAP = 14; // between the pointer and what is told beside it
+const DOUBLING = 120; // the pixels of a turn of the wheel that shows frames twice as wide
+const MOST_SCALE = 2 ** 30;
 const TREE_KEYS = { ArrowUp: "above", ArrowDown: "below", ArrowLeft: "before", ArrowRight: "after", Home: "zoomed" };
 
 /** A hue for a name, the same wherever the name stands. */
@@ -754,12 +908,18 @@ function partElement({ column, value }, most) {
   return element("span", {}, element("span", { className: "quiet" }, `${brief(column, LONGEST_LABEL)} `), line);
 }
 
+/** What a graph is of. */
+function titleOf(thread) {
+  return thread === whole ? thread.label : `thread ${thread.label}`;
+}
+
 class Graph {
   constructor(thread, stacks, isWidestFirst) {
     this.thread = thread;
-    this.frames = framesOf(`thread ${thread.label}`, stacks);
+    this.frames = framesOf(titleOf(thread), stacks);
     this.root = this.zoomed = this.focused = this.frames[0];
-    Object.assign(this, { isWidestFirst, pointed: null, marks: null, marked: [], history: [], levels: [], width: 0 });
+    // `scale` and `from` say which part of the zoomed frame is seen: one that is so many times smaller, from this fraction on.
+    Object.assign(this, { isWidestFirst, pointed: null, marks: null, marked: [], history: [], levels: [], width: 0, scale: 1, from: 0 });
     this.makeElements(thread);
     this.listen();
     this.showUnder();
@@ -769,13 +929,13 @@ class Graph {
     this.told = element("p", { className: "told", ariaLive: "polite" });
     this.markedStatus = element("p", { className: "status", role: "status" });
     this.backButton = element("button", { type: "button", onclick: () => this.back() }, "Back");
-    this.wholeButton = element("button", { type: "button", onclick: () => this.zoom(this.root) }, "Whole thread");
+    this.wholeButton = element("button", { type: "button", onclick: () => this.zoom(this.root) }, thread === whole ? "Whole graph" : "Whole thread");
     this.canvas = element("canvas", { ariaHidden: "true" });
     this.item = element("div", { role: "treeitem", id: `focused-${thread.at}`, className: "unseen" });
     this.spacer = element("div", { className: "spacer", role: "none" }, this.canvas);
     this.tip = element("div", { className: "tip", ariaHidden: "true", hidden: true });
-    const inFile = isApart ? ` in ${brief(thread.file.name, LONGEST_NAME)}` : "";
-    const label = `Flame graph of thread ${brief(thread.label, LONGEST_NAME)}${inFile}`;
+    const inFile = isApart && thread !== whole ? ` in ${brief(thread.file.name, LONGEST_NAME)}` : "";
+    const label = `Flame graph of ${brief(titleOf(thread), LONGEST_NAME)}${inFile}`;
     this.view = element("div", { className: "view", role: "tree", tabIndex: 0, ariaLabel: label }, this.spacer, this.item);
     this.view.setAttribute("aria-activedescendant", this.item.id);
     this.under = new Table("names", [
@@ -803,6 +963,7 @@ class Graph {
     this.canvas.addEventListener("pointermove", (event) => this.point(this.frameAt(event), event));
     this.canvas.addEventListener("pointerleave", () => this.point(null));
     this.canvas.addEventListener("click", (event) => this.zoom(this.frameAt(event) ?? this.zoomed));
+    this.canvas.addEventListener("wheel", (event) => event.ctrlKey && this.turn(event), { passive: false });
     matchMedia("(prefers-color-scheme: dark)").addEventListener("change", redraw);
     new ResizeObserver(() => this.view.clientWidth !== this.width && this.layOut()).observe(this.view);
   }
@@ -812,7 +973,8 @@ class Graph {
     if (width === 0) return;
     this.width = width;
     this.showTip(null); // Frames lie elsewhere now.
-    this.levels = levelsOf(this.zoomed, width, this.isWidestFirst);
+    const whole = width * this.scale;
+    this.levels = levelsOf(this.zoomed, { x: -this.from * whole, width: whole }, width, this.isWidestFirst);
     if (!this.levels[this.focused.level]?.some((box) => box.frame === this.focused)) this.focused = this.zoomed;
     this.canvas.boxes = this.levels; // for scripts that look at the page: what is drawn, level by level, in CSS pixels
     const seen = LEVEL * Math.min(this.levels.length, MOST_SEEN);
@@ -838,7 +1000,9 @@ class Graph {
     for (const box of this.levels.slice(first, first + MOST_SEEN + 1).flat()) this.drawBox(ink, box, look);
   }
 
-  drawBox(ink, { frame, x, width }, [text, ground, lightness, focus]) {
+  drawBox(ink, { frame, x: left, width: whole }, [text, ground, lightness, focus]) {
+    const x = Math.max(0, left);
+    const width = Math.min(this.width, left + whole) - x;
     const y = LEVEL * frame.level;
     const isDim = this.marks !== null && !this.marks(frame.name);
     ink.fillStyle = frame === this.root || isDim ? ground : `hsl(${hueOf(frame.name)} 55% ${lightness})`;
@@ -878,14 +1042,14 @@ class Graph {
     this.showTip(frame, { left: offsetX + GAP, top: offsetY - GAP, bottom: offsetY + GAP });
   }
 
-  /** Tells of a frame beside a part of the view: below it, or above where the window has no room. Of no frame nothing is told. */
+  /** Tells of a frame beside a part of the view: below it, or above where there is no room. Of no frame nothing is told. */
   showTip(frame, { left, top, bottom } = {}) {
     this.tip.hidden = frame === null;
     if (frame === null) return;
     this.tip.replaceChildren(...this.detailsOf(frame, LONGEST_NAME));
     const { width, height } = this.tip.getBoundingClientRect();
     const view = this.view.getBoundingClientRect();
-    const isBelow = view.top + bottom + height <= innerHeight;
+    const isBelow = view.top + bottom + height <= lowestSeen();
     this.tip.style.left = `${Math.max(0, Math.min(left, view.width - width))}px`;
     this.tip.style.top = `${isBelow ? bottom : top - height}px`;
   }
@@ -894,7 +1058,7 @@ class Graph {
   showFocused() {
     const box = this.levels[this.focused.level]?.find(({ frame }) => frame === this.focused);
     const top = LEVEL * this.focused.level - this.view.scrollTop;
-    this.showTip(box ? this.focused : null, { left: box?.x, top: top - 2, bottom: top + LEVEL + 2 });
+    this.showTip(box ? this.focused : null, { left: Math.max(0, box?.x), top: top - 2, bottom: top + LEVEL + 2 });
   }
 
   meetFocus() {
@@ -913,8 +1077,8 @@ class Graph {
   tell() {
     this.told.replaceChildren(...this.detailsOf(this.pointed ?? this.focused, LONGEST_WHOLE));
     this.describe(this.focused);
-    this.backButton.disabled = this.history.length === 0;
-    this.wholeButton.disabled = this.zoomed === this.root;
+    this.backButton.disabled = this.history.length === 0 && this.scale === 1;
+    this.wholeButton.disabled = this.zoomed === this.root && this.scale === 1;
   }
 
   /** The focused frame as an item of a tree, for those who hear the page. */
@@ -929,9 +1093,14 @@ class Graph {
 
   /** The name of a frame, its details apart from it, each cut to so many letters, and its numbers. */
   detailsOf(frame, most) {
-    const parts = frame === this.root ? plainParts(frame.name) : spans.framePartsOf(frame.name, this.thread);
+    const isPlain = frame === this.root || this.thread === whole;
+    const parts = isPlain ? plainParts(frame.name) : spans.framePartsOf(frame.name, this.thread);
     const lines = parts.map((part) => partElement(part, most));
-    return [element("span", { className: "label" }, ...lines), element("span", {}, `${this.numbersOf(frame)} of the thread's busy time`)];
+    return [element("span", { className: "label" }, ...lines), element("span", {}, `${this.numbersOf(frame)} ${this.ofWhat}`)];
+  }
+
+  get ofWhat() {
+    return this.thread === whole ? "of all busy time" : "of the thread's busy time";
   }
 
   numbersOf({ self, total }) {
@@ -980,9 +1149,25 @@ class Graph {
     tellOfChange(this.element);
   }
 
+  leaveZoom() {
+    if (this.zoomed !== this.root || this.scale > 1) this.zoom(this.root);
+  }
+
   back() {
-    if (this.history.length > 0) this.open(this.history.pop());
+    if (this.scale > 1) this.open(this.zoomed);
+    else if (this.history.length > 0) this.open(this.history.pop());
     tellOfChange(this.element);
+  }
+
+  /** Shows frames wider or narrower by a turn of the wheel, in pixels or in lines; what is at the pointer stays there. */
+  turn(event) {
+    const pixels = event.deltaMode === WheelEvent.DOM_DELTA_LINE ? LEVEL * event.deltaY : event.deltaY;
+    const scale = Math.min(MOST_SCALE, Math.max(1, this.scale * 2 ** (-pixels / DOUBLING)));
+    const from = this.from + event.offsetX / this.width * (1 / this.scale - 1 / scale);
+    Object.assign(this, { scale, from: Math.max(0, Math.min(from, 1 - 1 / scale)) });
+    this.layOut();
+    this.point(this.frameAt(event), event);
+    event.preventDefault();
   }
 
   /** Opens a frame as if it had been zoomed into from the whole thread. */
@@ -992,9 +1177,7 @@ class Graph {
   }
 
   open(frame) {
-    this.zoomed = frame;
-    this.pointed = null;
-    this.focused = frame;
+    Object.assign(this, { zoomed: frame, focused: frame, pointed: null, scale: 1, from: 0 });
     this.layOut();
     this.view.scrollTop = LEVEL * Math.max(0, frame.level - 3);
     this.focus(frame);
@@ -1038,7 +1221,7 @@ class Graph {
     }
     const count = this.marked.length;
     const marked = count === 1 ? "1 frame marked," : `${framesText(count)} marked, together`;
-    return `${marked} ${timeText(time)}, ${shareText(time, this.root.total)} of the thread's busy time`;
+    return `${marked} ${timeText(time)}, ${shareText(time, this.root.total)} ${this.ofWhat}`;
   }
 
   /** Shows a marked frame: leaves the zoom where none is drawn in it, and zooms into the widest where all are narrower than a pixel. */
@@ -1057,18 +1240,206 @@ class Graph {
   }
 }
 
+// The callers and callees of frames with a label: those right around them and right under them in the stacks of threads. Stacks are walked
+// as they stand in the page, without making their frames, and a clock has the time of those that were walked.
+
+/** The time of the stacks that have each of some keys. A stack that has a key more than once counts once for it: its time runs from where
+ * the first goes in to where the last goes out. */
+class Times {
+  constructor() {
+    this.entries = new Map();
+  }
+
+  goIn(key, now) {
+    if (!this.entries.has(key)) this.entries.set(key, { key, open: 0, since: 0n, time: 0n });
+    const entry = this.entries.get(key);
+    if (entry.open === 0) entry.since = now;
+    entry.open += 1;
+  }
+
+  goOut(key, now) {
+    const entry = this.entries.get(key);
+    entry.open -= 1;
+    if (entry.open === 0) entry.time += now - entry.since;
+  }
+
+  /** The keys, each with its time. */
+  get all() {
+    return [...this.entries.values()];
+  }
+}
+
+/** The calls of a label in stacks that are walked one after another. Null is the caller of what stands outermost. */
+class Calls {
+  constructor(label) {
+    Object.assign(this, { label, own: new Times(), callers: new Times(), callees: new Times(), self: 0n, stack: [], now: 0n });
+  }
+
+  /** A frame goes in or out, right under another one. */
+  tell(turn, label, caller) {
+    if (label === this.label) {
+      this.own[turn](label, this.now);
+      this.callers[turn](caller, this.now);
+    }
+    if (caller === this.label) this.callees[turn](label, this.now);
+  }
+
+  leaveTo(length) {
+    while (this.stack.length > length) {
+      const label = this.stack.pop();
+      this.tell("goOut", label, this.stack.at(-1) ?? null);
+    }
+  }
+
+  /** Walks the stacks of a thread, each of which says how many frames it shares with the one before. */
+  walk(stacks) {
+    for (const [shared, labels, time] of stacks) {
+      this.leaveTo(shared);
+      for (const label of labels) {
+        this.tell("goIn", label, this.stack.at(-1) ?? null);
+        this.stack.push(label);
+      }
+      this.now += BigInt(time);
+      if (this.stack.at(-1) === this.label) this.self += BigInt(time);
+    }
+    this.leaveTo(0);
+  }
+
+  /** The time of all stacks that have the label. */
+  get time() {
+    return this.own.entries.get(this.label)?.time ?? 0n;
+  }
+}
+
+function callsOf(label, threads) {
+  const calls = new Calls(label);
+  for (const thread of threads) calls.walk(stacks[thread.at]);
+  return calls;
+}
+
+// The panel that a click on a row of spans opens: what is right around the row's frames, and right under them, by time. It stays where it
+// is while its own rows are followed.
+
+const NO_LABELS = "The table has no column of names or arguments, and stacks have nothing else: which frames a row has can't be told.";
+const NO_STACK = "No stack has it: its spans have no length, or are of other threads than those that are chosen.";
+
+function threadsText(threads) {
+  return threads.length === 1 ? `thread ${brief(threads[0].label, LONGEST_LABEL)}` : `${grouped(threads.length)} threads`;
+}
+
+/** How far down in the window the page is seen: to the panel, if it is open. */
+function lowestSeen() {
+  return byId("calls").hidden ? innerHeight : byId("calls").getBoundingClientRect().top;
+}
+
+class CallsPanel {
+  constructor() {
+    this.row = null;
+    this.calls = new Calls("");
+    this.thread = null;
+    this.callers = this.listOf("callers", "nothing: outermost");
+    this.callees = this.listOf("callees", "itself");
+    byId("calls-lists").replaceChildren(this.callers.element, this.callees.element);
+    byId("calls-close").onclick = () => this.close();
+    byId("calls").addEventListener("keydown", ({ key }) => {
+      if (key === "Escape") this.close();
+    });
+  }
+
+  /** A list of calls by time; `lacking` stands for what has no label. */
+  listOf(what, lacking) {
+    const share = ({ time }) => fraction(time, this.calls.time);
+    return new Table(what, [
+      nameColumn(({ key }) => key ?? "", { title: what, fill: ({ key }) => (key === null ? lacking : this.linkOf(key)) }),
+      timeColumn("time", ({ time }) => time, { bar: share }),
+      numberColumn("share", share, { fill: ({ time }) => shareText(time, this.calls.time) }),
+    ]);
+  }
+
+  linkOf(label) {
+    return element("button", { type: "button", className: "name", onclick: () => this.goOn(label) }, ...this.partsOf(label));
+  }
+
+  /** The parts of a label as elements, with blanks between them. */
+  partsOf(label) {
+    const parts = spans.framePartsOf(label, this.thread);
+    return parts.flatMap(({ column, value }) => [valueElement(value, LONGEST_NAME, spans.shortsOf(column).get(value.word)), " "]);
+  }
+
+  /** Shows the calls of a row, or of a label at the place of one. */
+  show(row) {
+    this.row = row;
+    byId("calls").hidden = false;
+    const threads = row.place.threads.filter(isThreadOfPlace);
+    const having = threadsOf(row.label).filter((thread) => row.place.has.has(thread) && isThreadOfPlace(thread));
+    this.thread = having[0] ?? null;
+    this.calls = callsOf(row.label, having);
+    this.tell(having, this.notesOf(threads));
+    const { callers, callees, self } = this.calls;
+    this.callers.show(callers.all);
+    this.callees.show(self > 0n ? [...callees.all, { key: null, time: self }] : callees.all);
+  }
+
+  tell(having, notes) {
+    const { time } = this.calls;
+    const told = ` in stacks for ${timeText(time)}, ${shareText(time, busyTimeOf(having))} of the busy time of ${threadsText(having)}`;
+    byId("calls-of").replaceChildren(...(time > 0n ? [...this.partsOf(this.row.label), told] : []));
+    byId("calls-notes").replaceChildren(...notes.map((note) => element("p", {}, note)));
+    byId("calls-lists").hidden = time === 0n;
+  }
+
+  /** What has to be known of these times, which are of some threads. */
+  notesOf(threads) {
+    if (runs.length === 0) return [NO_RUNS];
+    if (spans.inLabel.length === 0) return [NO_LABELS];
+    const leftOut = threads.filter(isLeftOut);
+    const rows = spans.rowsOf(this.row.label, this.row.place);
+    const notes = [];
+    if (leftOut.length > 0) notes.push(`The stacks of ${threadsText(leftOut)} are left out of the page, and so of these times.`);
+    else if (this.calls.time === 0n) notes.push(NO_STACK);
+    if (rows.length > 1) {
+      notes.push(`${grouped(rows.length)} rows have these frames, since stacks tell no more of a span than ${spans.labelTitle}; `
+        + "the times are of all these rows together.");
+    }
+    if (rows.length === 0) notes.push("The table has no row of it, since options left it out.");
+    return notes;
+  }
+
+  /** Goes on to the row of a label, and marks its frames. */
+  goOn(label) {
+    const { place } = this.row;
+    const row = spans.rowsOf(label, place)[0] ?? { label, place };
+    chooseRow(row);
+    graphs.markRow(row);
+    byId("calls-title").focus();
+  }
+
+  /** Shows the same anew where other threads are chosen. */
+  showAgain() {
+    if (!byId("calls").hidden) this.show(this.row);
+  }
+
+  close() {
+    byId("calls").hidden = true;
+    tables[0].table.setCurrent(null);
+  }
+}
+
 // Keeps what is narrowed to, sorted by and zoomed into behind the # of the address, so that a view can be sent along with the page. What
 // stands there is taken like what a person types and chooses, and left out where the page has nothing of that name.
 
 const MOST_ZOOMS = 20;
+const WHOLE = "all";
 
 /** A file that is a run of its own, as it stands in an address: by its place from 1, since names may be long, or the same. */
 function fileNumberOf({ at }) {
   return String(at + 1);
 }
 
-/** A process or a thread as it stands there, behind its file where there are several runs. */
-function placeOf({ file, process, number }) {
+/** A process or a thread as it stands there, behind its file where there are several runs; and what stands for the graph of all files. */
+function placeOf(place) {
+  if (place === whole) return WHOLE;
+  const { file, process, number } = place;
   if (process) return `${placeOf(process)}.${number}`;
   return isApart ? `${fileNumberOf(file)}.${number}` : number;
 }
@@ -1116,7 +1487,7 @@ function showKeptView() {
 /** The thread and the place of a frame that an address names, or null where there is no such graph. */
 function zoomOf(text) {
   const [, place, at] = /^(.+)\.(\d{1,9})$/.exec(text) ?? [];
-  const thread = report.threads.find((one) => placeOf(one) === place);
+  const thread = place === WHOLE ? whole : report.threads.find((one) => placeOf(one) === place);
   return thread && hasGraph(thread) ? { thread, at: Number(at) } : null;
 }
 
@@ -1218,8 +1589,8 @@ function showWarnings() {
 const FIRST_GRAPHS = 50;
 const MORE_GRAPHS = 200;
 const MOST_FRAMES = 4194304;
-const NO_RUNS = "A page of more than 64 files that are runs of their own has their counts and the table of their spans alone: there are no "
-  + "flame graphs here, and nothing else that was traced.";
+const NO_RUNS = "A page of more than 64 files that are runs of their own has their counts, the table of their spans and the flame graph of "
+  + "all: none of a thread is here, and nothing else that was traced.";
 
 const byId = (id) => document.getElementById(id);
 const data = JSON.parse(byId("data").textContent);
@@ -1228,6 +1599,9 @@ const runs = data.runs ?? [data];
 const isApart = runs.length > 1;
 const report = readRuns(runs);
 const stacks = runs.flatMap((run) => run.stacks);
+// What stands for a thread in the graph of all files, whose stacks begin with the names of process and thread; null where there is none,
+// or where one file has no others.
+const whole = data.graph === undefined || runs.length === 1 ? null : { at: "whole", label: "all files", stacks: data.graph };
 const spans = new SpanTable(data.table, report);
 // All runs of a page have one unit. A page without its runs has no report that says it.
 const unit = runs.length > 0 ? report.unit : spans.unit;
@@ -1238,6 +1612,7 @@ const unit = runs.length > 0 ? report.unit : spans.unit;
 const narrowed = { file: null, process: null, thread: null, wanted: [], unwanted: [], places: new Set() };
 
 function isNamed(name, wanted = narrowed.wanted) {
+  if (wanted.length === 0 && narrowed.unwanted.length === 0) return true;
   const low = name.toLowerCase();
   return wanted.every((word) => low.includes(word)) && !narrowed.unwanted.some((word) => low.includes(word));
 }
@@ -1332,6 +1707,7 @@ function narrowTo(file, process, thread) {
   byId("process").value = process?.at ?? "";
   byId("thread").value = thread?.at ?? "";
   narrow();
+  calls.showAgain();
 }
 
 // The tables
@@ -1342,7 +1718,7 @@ const fileColumns = isApart ? [listedColumn("file", (row) => row.file)] : [];
 const plainName = nameColumn((row) => row.name);
 const total = timeColumn("total", (row) => row.total);
 const open = numberColumn("open", (row) => row.open);
-const id = textColumn("id", (row) => row.id);
+const id = { ...textColumn("id", (row) => row.id), isNone: (row) => row.id === NO_ID };
 const category = textColumn("category", (row) => row.category);
 
 // What rows have together of a number. Of total and outer times nothing is told, since spans stand within others.
@@ -1355,13 +1731,22 @@ const TOGETHER = {
 function spanTable() {
   const [first, ...others] = keyColumns();
   const isWide = ({ kind }) => kind !== undefined;
-  const columns = [{ ...first, fill: (row) => graphButton(row, first) }, ...others.filter(isWide)];
+  const columns = [{ ...first, fill: (row) => rowButton(row, first) }, ...others.filter(isWide)];
   const numbers = spans.numbers.flatMap(columnsOfNumber);
   const told = spans.numbers.filter((name) => Object.hasOwn(TOGETHER, name));
   const table = new Table("rows", [...columns, ...numbers, ...others.filter((column) => !isWide(column))],
     told.map((name) => ({ ...TOGETHER[name], value: spans.numberIn(name) })));
-  table.onchoose = (row) => graphs.find(row);
+  table.onchoose = (row) => {
+    chooseRow(row);
+    graphs.find(row);
+  };
   return { table, rows: spans.rows, home: byId("names"), isShown: isSpanNarrowedTo };
+}
+
+/** Shows the calls of a row, which may be just a label at a place, and makes it the current one of the table. */
+function chooseRow(row) {
+  tables[0].table.setCurrent(row);
+  calls.show(row);
 }
 
 /** The column of a number; that of self time has a bar, and beside it, where the page has the runs, the share of busy time. */
@@ -1380,7 +1765,9 @@ const NUMBERS = { process: "pid", thread: "tid" };
 /** A column for each of a key, those of labels first; these are wide. */
 function keyColumns() {
   const named = spans.columns.map((title) => NUMBERS[title]);
-  const columns = spans.columns.filter((title) => !named.includes(title)).map(columnOfKey);
+  const all = spans.columns.filter((title) => !named.includes(title)).map(columnOfKey);
+  const told = columnsWithValues(all, spans.rows);
+  const columns = told.length > 0 ? told : all.slice(0, 1);
   return [...columns.filter(({ kind }) => kind), ...columns.filter(({ kind }) => !kind)];
 }
 
@@ -1391,20 +1778,19 @@ function columnOfKey(title) {
     const fill = ({ values }) => document.createTextNode(namesOf(values[number].word, values[at].word).label);
     return keyColumn(title, (row) => row.values[number], { fill });
   }
-  const kind = title === "name" ? "name" : "detail";
-  const fill = (row) => valueElement(row.values[at]);
-  return keyColumn(title, (row) => row.values[at], isOfLabel(title) ? { kind, fill } : {});
+  const shorts = spans.shortsOf(title);
+  const fill = (row) => valueElement(row.values[at], isOfLabel(title) ? LONGEST_NAME : LONGEST_LABEL, shorts.get(row.values[at].word));
+  const kind = title === "name" ? "name" : isOfLabel(title) ? "detail" : undefined;
+  return keyColumn(title, (row) => row.values[at], { kind, fill, isNone: (row) => row.values[at] === NOTHING });
 }
 
-/** What a row has in a column, for keys: a click, which the row gets too, opens a graph that has the row's frames. */
-function graphButton(row, column) {
-  const button = element("button", { type: "button", className: "name" }, column.fill(row));
-  button.disabled = !row.place.threads.some(hasGraph);
-  return button;
+/** What a row has in a column, for keys: the row gets the click. */
+function rowButton(row, column) {
+  return element("button", { type: "button", className: "name" }, column.fill(row));
 }
 
 function otherTable(title, rows, columns) {
-  const table = new Table(title.toLowerCase(), [...columns, ...fileColumns]);
+  const table = new Table(title.toLowerCase(), columnsWithValues([...columns, ...fileColumns], rows));
   const home = element("details", {}, element("summary", {}, `${title} (${grouped(rows.length)})`), table.element);
   return { table, rows, home, isShown: isNarrowedTo };
 }
@@ -1434,21 +1820,31 @@ function byBusyTime(threads) {
   return threads.toSorted((one, other) => compare(other.busy, one.busy));
 }
 
+function stacksOf(thread) {
+  return thread === whole ? whole.stacks : stacks[thread.at];
+}
+
 /** Whether the graph of a thread is left out, since with it the page would have too many frames. */
 function isLeftOut(thread) {
-  return stacks[thread.at] === null;
+  return stacksOf(thread) === null;
 }
 
 function hasGraph(thread) {
-  return !isLeftOut(thread) && stacks[thread.at].length > 0;
+  return !isLeftOut(thread) && stacksOf(thread).length > 0;
 }
 
 const knownLabels = new Map();
 
 /** The labels of a thread's frames, each once. */
 function labelsOf(thread) {
-  if (!knownLabels.has(thread)) knownLabels.set(thread, [...new Set(stacks[thread.at].flatMap(([, labels]) => labels))]);
+  if (!knownLabels.has(thread)) knownLabels.set(thread, [...labelsIn(stacks[thread.at])]);
   return knownLabels.get(thread);
+}
+
+function labelsIn(stacks) {
+  const labels = new Set();
+  for (const [, own] of stacks) for (const label of own) labels.add(label);
+  return labels;
 }
 
 const threadsOfLabels = new Map();
@@ -1528,7 +1924,23 @@ class Graphs {
     return this.sections.get(thread);
   }
 
+  /** Shows the graph of all files, or that it is left out, above those of threads. */
+  showWhole() {
+    if (whole === null) return;
+    byId("whole").replaceChildren(this.sectionOf(whole));
+    if (hasGraph(whole)) this.sectionOf(whole).open = true;
+  }
+
+  makeWhole() {
+    const id = `thread-${whole.at}`;
+    const parts = [element("strong", {}, whole.label), ", each thread under its name"];
+    if (hasGraph(whole)) return element("details", { id, ontoggle: () => this.graphOf(whole) }, element("summary", {}, ...parts));
+    const why = isLeftOut(whole) ? "left out: too many frames" : `no span covers a ${unit.word}`;
+    return element("p", { id, className: "left-out" }, ...parts, element("span", { className: "hint" }, `, ${why}`));
+  }
+
   makeSection(thread) {
+    if (thread === whole) return this.makeWhole();
     const id = `thread-${thread.at}`;
     const numbers = element("span", { className: "busy" }, `busy ${timeText(thread.busy)}`);
     const open = thread.open > 0n ? `, ${grouped(thread.open)} open` : "";
@@ -1543,7 +1955,7 @@ class Graphs {
 
   graphOf(thread) {
     if (!this.graphs.has(thread)) {
-      const graph = new Graph(thread, stacks[thread.at], this.isWidestFirst);
+      const graph = new Graph(thread, stacksOf(thread), this.isWidestFirst);
       this.graphs.set(thread, graph);
       this.sectionOf(thread).append(graph.element);
       graph.mark(this.testOf(thread));
@@ -1560,25 +1972,38 @@ class Graphs {
   /** Opens the graph of a thread, which is listed from now on, however many are busier. */
   open(thread) {
     this.sought.add(thread);
-    if (!this.sectionOf(thread).isConnected) this.show(this.most);
+    if (!this.sectionOf(thread).isConnected && thread !== whole) this.show(this.most);
     this.sectionOf(thread).open = true;
     return this.graphOf(thread);
   }
 
-  /** Opens the graph of the busiest thread that has frames of a row, with these marked; one that is narrowed to comes first. Where the words
-   * are those of the row's parents alone, none may be; then it is listed nevertheless, until something else is narrowed to. */
-  find({ place, label }) {
+  /** Opens and gives the graph of the busiest thread that has frames of a row, with these marked; one that is narrowed to comes first.
+   * Where the words are those of the row's parents alone, none may be; then it is listed nevertheless, until something else is narrowed
+   * to. A page without its runs has the graph of all files. */
+  markRow({ place, label }) {
     const threads = this.threads.filter((thread) => hasGraph(thread) && place.has.has(thread) && isThreadOfPlace(thread));
     const having = threads.filter((thread) => labelsOf(thread).includes(label));
-    const thread = having.find(isThreadNarrowedTo) ?? having[0] ?? threads[0];
-    if (thread === undefined) return;
+    const other = runs.length === 0 && whole !== null && hasGraph(whole) ? whole : undefined;
+    const thread = having.find(isThreadNarrowedTo) ?? having[0] ?? threads[0] ?? other;
+    if (thread === undefined) return null;
     this.found.add(thread);
     const graph = this.open(thread);
-    graph.mark((other) => other === label);
+    graph.mark((own) => own === label);
     graph.reveal();
+    return graph;
+  }
+
+  /** The same, and leads there. */
+  find(row) {
+    const graph = this.markRow(row);
+    if (graph === null) return;
     graph.view.focus({ preventScroll: true });
-    this.sectionOf(thread).scrollIntoView({ block: "start" });
+    this.sectionOf(graph.thread).scrollIntoView({ block: "start" });
     graph.showFocused();
+  }
+
+  leaveZooms() {
+    this.graphs.forEach((graph) => graph.leaveZoom());
   }
 
   /** The frames that are zoomed into, each with its thread. */
@@ -1598,6 +2023,7 @@ class Graphs {
 
 const tables = [spanTable(), ...otherTables()];
 const graphs = new Graphs();
+const calls = new CallsPanel();
 
 function showUnit() {
   byId("times").textContent = `Times are whole ${unit.word}s.`;
@@ -1609,6 +2035,7 @@ function showChoices() {
   byId("file").parentElement.hidden = !isApart;
   byId("over-files").hidden = !isApart || spans.columns.includes("file");
   for (const part of document.querySelectorAll(".of-runs")) part.hidden = runs.length === 0;
+  byId("of-graphs").hidden = runs.length === 0 && (whole === null || !hasGraph(whole));
 }
 
 function start() {
@@ -1619,17 +2046,33 @@ function start() {
   showChoices();
   byId("names").replaceChildren(tables[0].table.element);
   byId("others").replaceChildren(...tables.slice(1).map(({ home }) => home));
+  byId("unstacked").hidden = tables.length === 1;
   byId("words").addEventListener("input", narrow);
   byId("file").addEventListener("change", () => narrowTo(report.files[byId("file").value] ?? null, null, null));
   byId("process").addEventListener("change", () => narrowTo(narrowed.file, report.processes[byId("process").value] ?? null, null));
   byId("thread").addEventListener("change", () => narrowTo(narrowed.file, narrowed.process, report.threads[byId("thread").value] ?? null));
   graphs.showLeftOut();
+  graphs.showWhole();
   showKeptView();
   const busiest = graphs.show().find(hasGraph);
   if (busiest) graphs.sectionOf(busiest).open = true;
   listenForViews();
+  addEventListener("keydown", pressKey);
   document.querySelector("main").ariaBusy = "false";
   performance.mark("ready");
+}
+
+// What keys do wherever nothing is written or chosen.
+const KEYS = {
+  "/": () => byId("words").select(),
+  0: () => graphs.leaveZooms(),
+};
+
+function pressKey(event) {
+  if (event.defaultPrevented || event.ctrlKey || event.altKey || event.metaKey || event.target.matches("input, select")) return;
+  if (!Object.hasOwn(KEYS, event.key)) return;
+  KEYS[event.key]();
+  event.preventDefault();
 }
 
 function listenForViews() {

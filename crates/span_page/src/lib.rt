@@ -4,6 +4,7 @@
 mod data;
 mod fault;
 mod fixed;
+mod graph;
 pub mod laws;
 mod runs;
 mod safe;
@@ -15,4 +16,5 @@ pub use runs::RunsPage;
 pub use span_collect::{FileEnd, Input, Ledger, Sink, WriteFault};
 pub use span_event::Unit;
 pub use span_report::stacks::SpanColumn;
+pub use span_stack_sums::StackSum;
 pub use text::page;

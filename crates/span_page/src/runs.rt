@@ -1,14 +1,17 @@
 //! A page of several runs, which come one after another.
 ghost use Rattle.std.specs.Prelude.{◌≡◌, ◌≤◌, [], List, length, string_bytes, IfErr, IfOk, None, Some};
-ghost use Rattle.span_page.specs.{Bounds.{IsFaultOf, most_bytes}, Runs.{Begins, Holds, ShownRun, TakesRun, page_of_runs}};
+ghost use Rattle.span_page.specs.{KeyedSums, Stands, rows_of, Bounds.{IsFaultOf, most_bytes}, Runs.{Begins, Holds, ShownRun, TakesRun, page_of_runs}};
 
 use crate::data::{MOST_FRAMES, put_report, put_rest, put_safe_string};
 use crate::fault::{PageFault, check_length};
+use crate::graph::graph_text;
+use crate::safe::put_safe;
 use crate::text::{before, behind};
 use span_collect::{FileEnd, Input};
 use span_event::Unit;
 use span_ledger::Ledger;
 use span_report::stacks::SpanColumn;
+use span_stack_sums::StackSum;
 use std::alloc::{AllocError, Global};
 use std::marker::Model;
 
@@ -89,22 +92,22 @@ impl RunsPage {
         }
     }
 
-    /// The whole page, with the text of a table of spans, which is JSON Lines. One that is too long is not made, and there was never
-    /// much more of it in memory than a page may have.
-    pub fn end(self, alloc: Global, table: String) -> Result<Vec<u8>, PageFault>
-        ensures text { IfOk result (λ text.
-            (unit : Unit) (labels : List SpanColumn) (runs : List ShownRun)
-            → Holds unit labels runs self
-            → text.items ≡ page_of_runs unit labels (string_bytes table) runs) }
+    /// The whole page, with the text of a table of spans, which is JSON Lines, and the graph of stacks that were added. One that is too
+    /// long is not made, and there was never much more of it in memory than a page may have.
+    pub fn end(self, alloc: Global, table: String, stacks: StackSum) -> Result<Vec<u8>, PageFault>
+        ensures text { IfOk result (λ text. (unit : Unit) (labels : List SpanColumn)
+            (runs : List ShownRun) (sums : KeyedSums)
+            → Holds unit labels runs self → Stands stacks.rows sums
+            → text.items ≡ page_of_runs unit labels (string_bytes table) (rows_of sums) runs) }
         ensures fits { IfOk result (λ text. length text.items ≤ most_bytes) }
-        ensures full { IfErr result (λ fault.
-            (unit : Unit) (labels : List SpanColumn) (runs : List ShownRun)
-            → Holds unit labels runs self
-            → IsFaultOf (page_of_runs unit labels (string_bytes table) runs) fault) }
+        ensures full { IfErr result (λ fault. (unit : Unit) (labels : List SpanColumn)
+            (runs : List ShownRun) (sums : KeyedSums)
+            → Holds unit labels runs self → Stands stacks.rows sums
+            → IsFaultOf (page_of_runs unit labels (string_bytes table) (rows_of sums) runs) fault) }
     {
         let RunsPage { begun } = self;
         match begun {
-            Some(begun) => begun.end(alloc, table),
+            Some(begun) => begun.end(alloc, table, stacks),
             None => Err(PageFault::TooLarge),
         }
     }
@@ -147,20 +150,23 @@ impl Begun {
         })
     }
 
-    fn end(self, alloc: Global, table: String) -> Result<Vec<u8>, PageFault>
-        ensures text { IfOk result (λ text.
-            (unit : Unit) (labels : List SpanColumn) (runs : List ShownRun)
-            → Begins unit labels runs self
-            → text.items ≡ page_of_runs unit labels (string_bytes table) runs) }
+    fn end(self, alloc: Global, table: String, stacks: StackSum) -> Result<Vec<u8>, PageFault>
+        ensures text { IfOk result (λ text. (unit : Unit) (labels : List SpanColumn)
+            (runs : List ShownRun) (sums : KeyedSums)
+            → Begins unit labels runs self → Stands stacks.rows sums
+            → text.items ≡ page_of_runs unit labels (string_bytes table) (rows_of sums) runs) }
         ensures fits { IfOk result (λ text. length text.items ≤ most_bytes) }
-        ensures full { IfErr result (λ fault.
-            (unit : Unit) (labels : List SpanColumn) (runs : List ShownRun)
-            → Begins unit labels runs self
-            → IsFaultOf (page_of_runs unit labels (string_bytes table) runs) fault) }
+        ensures full { IfErr result (λ fault. (unit : Unit) (labels : List SpanColumn)
+            (runs : List ShownRun) (sums : KeyedSums)
+            → Begins unit labels runs self → Stands stacks.rows sums
+            → IsFaultOf (page_of_runs unit labels (string_bytes table) (rows_of sums) runs) fault) }
     {
         let Begun { mut text, .. } = self;
         text.extend_from_slice(b"],\"table\":")?;
         put_safe_string(alloc, &mut text, table)?;
+        let graph = graph_text(alloc, stacks)?;
+        text.extend_from_slice(b",\"graph\":")?;
+        put_safe(&mut text, graph.as_bytes())?;
         text.extend_from_slice(b"}")?;
         text.extend_from_slice(behind().as_bytes())?;
         check_length(&text)?;
