@@ -53,12 +53,12 @@ no_table : (words : List Bytes) (options : Options) → HasOnlyFiles words optio
 no_table words options only = rw (only.by, only.numbers, only.of, only.group_by, only.conditions, only.merge_templates, only.only, only.skip, only.apart, only.add, only.top, only.json, only.base) refl
 
 default : (words : List Bytes) (options : Options) → HasOnlyFiles words options → settings_of options ≡ default_settings
-default words options only = rw (only.nanoseconds, only.limit, only.seal, only.strict) refl
+default words options only = rw (only.nanoseconds, only.large, only.limit, only.seal, only.strict) refl
 
 -- what options that only name files ask for is their report
 of_options : (words : List Bytes) (options : Options) → list_all is_plain words ≡ true → HasOnlyFiles words options → (request : Request) → IsOf options request → IsReport words request
 of_options words options plain only (Run (Collect settings (Report warns)) files) is =
-    (is.0.2.1 ∙ default words options only, is.0.2.2.1 ∙ rw (only.nanoseconds, only.files_from) refl, is.1.0 ∙ only.names, is.1.1 ∙ only.files_from)
+    (is.0.2.1 ∙ default words options only, is.0.2.2.1 ∙ rw (only.nanoseconds, only.large, only.files_from) refl, is.1.0 ∙ only.names, is.1.1 ∙ only.files_from)
 of_options words options plain only (Run (Collect settings Refusals) files) is = true≢false (sym is.0.2.2 ∙ only.refused)
 of_options words options plain only (Run (Collect settings (Folded labels)) files) is = true≢false (sym is.0.2.2.0 ∙ only.folded)
 of_options words options plain only (Run (Collect settings (Page view)) files) is = true≢false (sym is.0.2.2.0 ∙ only.page)

@@ -1,6 +1,6 @@
 -- What holds of all that options and words ask for.
 use Rattle.std.specs.{List.list_all, Prelude.{◌≡◌, ◌⊎◌, ◌<◌, ◌^◌, false, true, All, List, [], None, length}}
-use Rattle.span_request.specs.{AreColumns, AreNumbers, Bytes, Condition, Microseconds, Number, Of, Options, Programs, Settings, goes_with, is_plain, shown_numbers, usual_numbers, Asked.Asked, Numbers.numbers_go_with, Request.{AreSound, AsksFor}, Tasks.{IsOptions, default_limit}}
+use Rattle.span_request.specs.{AreColumns, AreNumbers, Bytes, Condition, Microseconds, Number, Of, Options, Programs, Settings, format_of, goes_with, is_plain, shown_numbers, usual_numbers, Asked.Asked, Numbers.numbers_go_with, Request.{AreSound, AsksFor}, Tasks.{IsOptions, default_limit}}
 use Rattle.span_request.specs.declared.{tasks.{Request.{Request, TheVariants.Run}, Task.TheVariants.Collect}, views.{TableOptions.TableOptions, View.TheVariants.Report}}
 
 -- the columns by which a table is made of traces are those that a table may have
@@ -28,7 +28,7 @@ AddedTablesMayShowThem = (options : Options) (asked : Asked) (table : TableOptio
 
 -- the settings where the command line doesn't say
 abbrev pub default_settings : Settings
-default_settings = record { unit = Microseconds; limit = default_limit; seal = false; strict = false }
+default_settings = record { format = format_of Microseconds; limit = default_limit; seal = false; strict = false }
 
 -- the report of the files of these names, collected as one run with the default settings, without warnings
 abbrev pub IsReport : List Bytes → Request → Type 0

@@ -35,6 +35,7 @@ excluded options =
     ∷ (options.json && options.page)
     ∷ (options.repeats && options.apart)
     ∷ (options.repeats && is_some options.numbers)
+    ∷ (options.add && options.large)
     ∷ (options.add && is_some options.limit)
     ∷ (options.add && options.nanoseconds)
     ∷ (options.add && options.seal)

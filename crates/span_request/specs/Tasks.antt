@@ -1,20 +1,23 @@
 -- The task that the options ask for, of such a table.
 use Rattle.std.specs.{Prelude.{◌≡◌, ◌&&◌, ◌||◌, if◌then◌else◌, ℕ, Bool, true, false, List, [], ◌∷◌, Option, Some, None, filter_map, is_some, map, unwrap_or}, Option.option_map_or}
-use Rattle.span_request.specs.{Argument, Column, Microseconds, Name, Named, Nanoseconds, Narrowing, Options, Settings, SpanColumn, AskedNumbers, names_of, Asked.Asked, Numbers.by_of, Rules.takes_apart, Texts.{are_given, audience_of, most_rows, prints_table}}
+use Rattle.span_request.specs.{Argument, Column, Format, Microseconds, Name, Named, Nanoseconds, Narrowing, Options, Settings, SpanColumn, Unit, AskedNumbers, format_of, large_format, names_of, Asked.Asked, Numbers.by_of, Rules.takes_apart, Texts.{are_given, audience_of, most_rows, prints_table}}
 use Rattle.span_request.specs.declared.tasks.{Items.{Items, TheVariants.{Apart, Printed, Together}}, TableText.{TableText, TheVariants.{Changes, Repetitions, Table}}, Task.{Task, TheVariants.{Collect, Pages, Stacks, Tabulate}}}
 use Rattle.span_request.specs.declared.views.{ComparisonForm.ComparisonForm, PageView.PageView, RepeatsForm.RepeatsForm, TableForm.{TableForm, TheVariants.{Json, Ranking}}, TableOptions.TableOptions, View.{View, TheVariants.{Folded, Page, Refusals, Report}}}
 use Rattle.span_report.specs.declared.stacks.label.SpanColumn.TheVariants as label
 use Rattle.span_request.specs.declared.views.ComparisonForm.TheVariants as changes
 use Rattle.span_request.specs.declared.views.RepeatsForm.TheVariants as repeats
 
--- the most entries of a journal, where the command line doesn't say
+-- the most entries of a journal, where the command line doesn't say, nor that files may be large
 abbrev pub default_limit : ℕ
 default_limit = 16777216
 
+abbrev pub format_asked : Options → Unit → Format
+format_asked options unit = if options.large then large_format unit else format_of unit
+
 abbrev pub settings_of : Options → Settings
 settings_of options = record {
-  unit = if options.nanoseconds then Nanoseconds else Microseconds;
-  limit = unwrap_or options.limit default_limit;
+  format = format_asked options (if options.nanoseconds then Nanoseconds else Microseconds);
+  limit = unwrap_or options.limit (if options.large then 4294967295 else default_limit);
   seal = options.seal;
   strict = options.strict;
 }
@@ -65,9 +68,9 @@ asked_labels options columns = if options.merge_templates then map merged_label 
 abbrev pub IsPageView : Options → Asked → PageView → Type 0
 IsPageView options asked view = IsOptions options asked view.options × (view.labels.items ≡ asked_labels options asked.columns)
 
--- warnings follow a report where an option other than a limit, seals and strict names is given, of which a report may have these two
+-- warnings follow a report where an option other than a limit, seals and strict names is given, of which a report may have these three
 abbrev pub warns_of : Options → Bool
-warns_of options = options.nanoseconds || is_some options.files_from
+warns_of options = options.nanoseconds || options.large || is_some options.files_from
 
 -- the text of one run, beside its table
 abbrev pub IsView : Options → Asked → View → Type 0

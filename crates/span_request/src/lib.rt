@@ -14,7 +14,8 @@ mod texts;
 mod views;
 
 pub use numbers::numbers_go_with;
-pub use request::{DEFAULT_SETTINGS, request_of};
+pub use request::{default_settings, request_of};
+pub use span_collect::Settings;
 pub use span_event::Text;
 pub use span_narrowing::{Condition, Narrowing};
 pub use span_table::{Number, Of};

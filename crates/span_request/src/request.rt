@@ -1,6 +1,6 @@
 //! What the words of a command line ask for.
 ghost use Rattle.std.specs.Prelude.{◌≡◌, IfOk, MatchResult};
-ghost use Rattle.span_request.specs.{Request.{AreUnsound, Asks, AsksFor, IsOf}, Tasks.{IsOptions, IsPageView, IsTask, IsText, IsView, comparison_form, items_of, repeats_form, settings_of, table_form, warns_of}};
+ghost use Rattle.span_request.specs.{Laws.default_settings, Request.{AreUnsound, Asks, AsksFor, IsOf}, Tasks.{IsOptions, IsPageView, IsTask, IsText, IsView, comparison_form, format_asked, items_of, repeats_form, settings_of, table_form, warns_of}};
 
 use crate::columns::asked_labels;
 use crate::numbers::by_of;
@@ -13,17 +13,22 @@ use span_collect::Settings;
 use span_event::{Text, Unit};
 use span_narrowing::Narrowing;
 use span_options::{DEFAULT_LIMIT, Options, Parsed, options_of, refusal};
+use span_read::Format;
 use span_runs::{Named, names_of_words};
 use span_table_text::{AskedNumbers, Shown};
 use std::alloc::{AllocError, Global};
 
 /// The settings where the command line does not say.
-pub const DEFAULT_SETTINGS: Settings = Settings {
-    unit: Unit::Microseconds,
-    limit: DEFAULT_LIMIT,
-    seal: false,
-    strict: false,
-};
+pub fn default_settings() -> Settings
+    ensures { result ≡ default_settings }
+{
+    Settings {
+        format: Format::of(Unit::Microseconds),
+        limit: DEFAULT_LIMIT,
+        seal: false,
+        strict: false,
+    }
+}
 
 /// What the words ask for; they leave out the program's own name.
 pub fn request_of(alloc: Global, words: Vec<Text>) -> Result<Request, AllocError>
@@ -109,11 +114,26 @@ fn settings_of(options: &Options) -> Settings
     } else {
         Unit::Microseconds
     };
+    let most = if options.large {
+        u32::MAX
+    } else {
+        DEFAULT_LIMIT
+    };
     Settings {
-        unit,
-        limit: options.limit.unwrap_or(DEFAULT_LIMIT),
+        format: format_asked(options, unit),
+        limit: options.limit.unwrap_or(most),
         seal: options.seal,
         strict: options.strict,
+    }
+}
+
+fn format_asked(options: &Options, unit: Unit) -> Format
+    ensures { result ≡ format_asked options.now unit }
+{
+    if options.large {
+        Format::large(unit)
+    } else {
+        Format::of(unit)
     }
 }
 
@@ -150,7 +170,7 @@ fn view_of(alloc: Global, options: &Options, summed: Summed) -> Result<View, All
 fn warns_of(options: &Options) -> bool
     ensures { result ≡ warns_of options.now }
 {
-    options.nanoseconds || options.files_from.is_some()
+    options.nanoseconds || options.large || options.files_from.is_some()
 }
 
 fn page_view(alloc: Global, options: &Options, summed: Summed) -> Result<PageView, AllocError>

@@ -78,6 +78,10 @@ fn excluded_rule(options: &Options) -> Option<&'static str>
             "the argument '--repeats' cannot be used with '--numbers <LIST>'",
         ),
         Rule(
+            add & options.large,
+            "the argument '--add' cannot be used with '--large'",
+        ),
+        Rule(
             add & options.limit.is_some(),
             "the argument '--add' cannot be used with '--limit <N>'",
         ),

@@ -7,13 +7,13 @@ use Rattle.span_runs.proofs.InTurn.{AreAlikeRuns-in_turn}
 -- one file has one end
 pub length-alone : (file : Input) (settings : Settings) (ends : List FileEnd) (asked : Asked) (sealing : Sealing) (journal : List Entry) → SealedAccount (file ∷ []) [] settings ends asked sealing journal → length ends ≡ 1
 length-alone file settings ends asked sealing journal account =
-    AllZip-long (λ (f : Input) (end : FileEnd). EndsAs account.told settings.limit (doc settings.unit f.bytes.items) end) (file ∷ []) ends account.account.each_file_once_in_order
+    AllZip-long (λ (f : Input) (end : FileEnd). EndsAs account.told settings.limit (doc settings.format f.bytes.items) end) (file ∷ []) ends account.account.each_file_once_in_order
 
 module _ (file : Input) (settings : Settings) (ends : List FileEnd) (asked : Asked) (sealing : Sealing) (journal : List Entry)
     (account : SealedAccount (file ∷ []) [] settings ends asked sealing journal) (below : status_of ends asked sealing < 2) where
   -- its run is alike the one of its items in their order
   pub AreAlikeRuns-alone : AreAlikeRuns (run_of_files (file ∷ []) ends journal) (run_alone settings file)
-  AreAlikeRuns-alone = AreAlikeRuns-in_turn (file ∷ []) settings ends asked sealing journal account (AreSeparate-one settings.unit file) below
+  AreAlikeRuns-alone = AreAlikeRuns-in_turn (file ∷ []) settings ends asked sealing journal account (AreSeparate-one settings.format file) below
 
   -- it is accounted for
   pub IsAccounted-alone : IsAccounted settings file
@@ -28,19 +28,19 @@ module _ (file : Input) (settings : Settings) (ends : List FileEnd) (asked : Ask
   }
 
   -- its fault lines are its refusal line
-  pub end_lines-alone : end_lines (file ∷ []) ends ≡ refusal_line settings.unit file
-  end_lines-alone = end_lines-in_turn (file ∷ []) [] settings ends asked sealing journal account (AreSeparate-one settings.unit file) below ∙ append-nil (refusal_line settings.unit file)
+  pub end_lines-alone : end_lines (file ∷ []) ends ≡ refusal_line settings.format file
+  end_lines-alone = end_lines-in_turn (file ∷ []) [] settings ends asked sealing journal account (AreSeparate-one settings.format file) below ∙ append-nil (refusal_line settings.format file)
 
   -- and its warnings are those of its items in their order
   pub warnings_of-alone : warnings_of (file ∷ []) ends journal ≡ warnings_alone settings file
-  warnings_of-alone = warnings_of-in_turn (file ∷ []) [] settings ends asked sealing journal account (AreSeparate-one settings.unit file) below
+  warnings_of-alone = warnings_of-in_turn (file ∷ []) [] settings ends asked sealing journal account (AreSeparate-one settings.format file) below
 
 -- a run whose name is shorter is of the same file
 pub IsFileRun-shorter : (source : SourceBytes) (name : Name) (settings : Settings) (cut : ℕ) (old new : FileRun) → IsFileRun source name settings old → IsShorter cut old new → IsFileRun source name settings new
 IsFileRun-shorter source name settings cut old new is same =
     let file = sym same.file in
     let collected = sym same.collected in record {
-      read = subst (IsInput source name) file is.read;
+      read = subst (IsInput source settings name) file is.read;
       account = rw (same.file, same.collected) is.account;
       status = rw same.collected is.status;
       one = rw same.collected is.one;

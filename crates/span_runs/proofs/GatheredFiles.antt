@@ -9,15 +9,15 @@ around-name names place name low is =
     ap (λ n. take place names ++ n ∷ drop (suc place) names) is ∙ ap (λ (ns : List Name). take place names ++ ns) (sym (drop-cons names place name low)) ∙ take-append-drop place names
 
 -- inputs and others, read of names and others
-pub AreInputs-append : (source : SourceBytes) (names more : List Name) (inputs others : List Input) → AreInputs source names inputs → AreInputs source more others → AreInputs source (names ++ more) (inputs ++ others)
-AreInputs-append source [] more [] others one other = other
-AreInputs-append source [] more (input ∷ inputs) others one other = absurd one
-AreInputs-append source (name ∷ names) more [] others one other = absurd one
-AreInputs-append source (name ∷ names) more (input ∷ inputs) others one other = (one.0, AreInputs-append source names more inputs others one.1 other)
+pub AreInputs-append : (source : SourceBytes) (settings : Settings) (names more : List Name) (inputs others : List Input) → AreInputs source settings names inputs → AreInputs source settings more others → AreInputs source settings (names ++ more) (inputs ++ others)
+AreInputs-append source settings [] more [] others one other = other
+AreInputs-append source settings [] more (input ∷ inputs) others one other = absurd one
+AreInputs-append source settings (name ∷ names) more [] others one other = absurd one
+AreInputs-append source settings (name ∷ names) more (input ∷ inputs) others one other = (one.0, AreInputs-append source settings names more inputs others one.1 other)
 
 -- one more input, read of one more name
-pub AreInputs-push : (source : SourceBytes) (names : List Name) (inputs : List Input) (name : Name) (input : Input) → AreInputs source names inputs → IsInput source name input → AreInputs source (names ++ name ∷ []) (inputs ++ input ∷ [])
-AreInputs-push source names inputs name input read is = AreInputs-append source names (name ∷ []) inputs (input ∷ []) read (is, tt)
+pub AreInputs-push : (source : SourceBytes) (settings : Settings) (names : List Name) (inputs : List Input) (name : Name) (input : Input) → AreInputs source settings names inputs → IsInput source settings name input → AreInputs source settings (names ++ name ∷ []) (inputs ++ input ∷ [])
+AreInputs-push source settings names inputs name input read is = AreInputs-append source settings names (name ∷ []) inputs (input ∷ []) read (is, tt)
 
 -- what is said of one more file, in its place
 flat_map-push : {A : Type 0} (own : Input → List A) (files : List Input) (file : Input) → flat_map own (files ++ file ∷ []) ≡ flat_map own files ++ own file
@@ -25,7 +25,7 @@ flat_map-push own files file = flat_map-append own files (file ∷ []) ∙ ap (�
 
 pub SaysOfFiles-push : (settings : Settings) (files : List Input) (file : Input) (old new : Said) → SaysOfFiles settings files old → SaysMore settings file old new → SaysOfFiles settings (files ++ file ∷ []) new
 SaysOfFiles-push settings files file old new says more = record {
-  lines = more.lines ∙ (λ i. says.lines i ++ refusal_line settings.unit file) ∙ sym (flat_map-push (refusal_line settings.unit) files file);
+  lines = more.lines ∙ (λ i. says.lines i ++ refusal_line settings.format file) ∙ sym (flat_map-push (refusal_line settings.format) files file);
   warnings = more.warnings ∙ (λ i. says.warnings i ++ warnings_alone settings file) ∙ sym (flat_map-push (warnings_alone settings) files file);
 }
 
@@ -33,7 +33,7 @@ SaysOfFiles-push settings files file old new says more = record {
 pub SaysOfFiles-append : (settings : Settings) (files others : List Input) (first second both : Said) → SaysOfFiles settings files first → SaysOfFiles settings others second → IsBehind first second both →
     SaysOfFiles settings (files ++ others) both
 SaysOfFiles-append settings files others first second both one other behind = record {
-  lines = behind.lines ∙ ap₂ (λ (xs ys : Bytes). xs ++ ys) one.lines other.lines ∙ sym (flat_map-append (refusal_line settings.unit) files others);
+  lines = behind.lines ∙ ap₂ (λ (xs ys : Bytes). xs ++ ys) one.lines other.lines ∙ sym (flat_map-append (refusal_line settings.format) files others);
   warnings = behind.warnings ∙ ap₂ (λ (xs ys : List Warning). xs ++ ys) one.warnings other.warnings ∙ sym (flat_map-append (warnings_alone settings) files others);
 }
 
@@ -52,7 +52,7 @@ abbrev pub AreGathered-push : {T : Type 0} (source : SourceBytes) (names : List 
     GathersFiles source names settings ComeTo old → AddsFile source name settings ComeTo old new → GathersFiles source (names ++ name ∷ []) settings ComeTo new
 AreGathered-push source names name settings ComeTo old new gathered adds = record {
   files = gathered.files ++ adds.file ∷ [];
-  read = AreInputs-push source names gathered.files name adds.file gathered.read adds.read;
+  read = AreInputs-push source settings names gathered.files name adds.file gathered.read adds.read;
   accounted = All-push (IsAccounted settings) gathered.files adds.file gathered.accounted adds.accounted;
   runs = subst (λ (runs : List Run). ComeTo runs new.runs) (sym (map_push (run_alone settings) gathered.files adds.file)) (adds.runs (map (run_alone settings) gathered.files) gathered.runs);
   says = SaysOfFiles-push settings gathered.files adds.file old.said new.said gathered.says adds.says;
@@ -65,15 +65,15 @@ pub AreGathered-append : {T : Type 0} (source : SourceBytes) (names more : List 
     IsBehind first.said second.said both.said → GathersFiles source (names ++ more) settings ComeTo both
 AreGathered-append source names more settings ComeTo first second both one other joins behind = record {
   files = one.files ++ other.files;
-  read = AreInputs-append source names more one.files other.files one.read other.read;
+  read = AreInputs-append source settings names more one.files other.files one.read other.read;
   accounted = All-append (IsAccounted settings) one.files other.files one.accounted other.accounted;
   runs = subst (λ (runs : List Run). ComeTo runs both.runs) (sym (map-append (run_alone settings) one.files other.files)) (joins (map (run_alone settings) one.files) (map (run_alone settings) other.files) one.runs other.runs);
   says = SaysOfFiles-append settings one.files other.files first.said second.said both.said one.says other.says behind;
 }
 
 -- there are as many runs as names
-pub length-gathered : (source : SourceBytes) (names : List Name) (settings : Settings) (files : List Input) → AreInputs source names files → length (map (run_alone settings) files) ≡ length names
-length-gathered source names settings files read = length-map files (run_alone settings) ∙ AllZip-long (IsInput source) names files read
+pub length-gathered : (source : SourceBytes) (names : List Name) (settings : Settings) (files : List Input) → AreInputs source settings names files → length (map (run_alone settings) files) ≡ length names
+length-gathered source names settings files read = length-map files (run_alone settings) ∙ AllZip-long (IsInput source settings) names files read
 
 module _ {T : Type 0} (cut : ℕ) (ComeTo : List Run → T → Type 0) (first second : T) where
   -- what is joined is joined where names are shorter

@@ -5,7 +5,7 @@ use Rattle.span_table.proofs.SameTables.{table_of-alike}
 use Rattle.span_runs.specs.{Entry, FileEnd, Input, Asked, Sealing, Settings, AreSeparate, status_of, SealedAccount, Schema, AreAlikeRuns, Runs.{run_in_turn, run_of_files, table_of_run}}
 
 module _ (files : List Input) (settings : Settings) (ends : List FileEnd) (asked : Asked) (sealing : Sealing) (journal : List Entry)
-    (account : SealedAccount files [] settings ends asked sealing journal) (separate : AreSeparate settings.unit files) (below : status_of ends asked sealing < 2) where
+    (account : SealedAccount files [] settings ends asked sealing journal) (separate : AreSeparate settings.format files) (below : status_of ends asked sealing < 2) where
   -- the runs are alike
   pub AreAlikeRuns-in_turn : AreAlikeRuns (run_of_files files ends journal) (run_in_turn settings files)
   AreAlikeRuns-in_turn = record {

@@ -106,11 +106,11 @@ module _ (source : SourceBytes) (settings : Settings) where
     later = stops.later;
     split = ap (λ (ns : List Name). names ++ ns) stops.split ∙ sym (append_assoc names stops.done stops.later);
     files = gathered.files ++ stops.files;
-    read = AreInputs-append source names stops.done gathered.files stops.files gathered.read stops.read;
+    read = AreInputs-append source settings names stops.done gathered.files stops.files gathered.read stops.read;
     accounted = All-append (IsAccounted settings) gathered.files stops.files gathered.accounted stops.accounted;
     own = stops.own;
     said =
-        (λ i. gathered.says.lines i ++ stops.said i) ∙ sym (append_assoc (flat_map (refusal_line settings.unit) gathered.files) (flat_map (refusal_line settings.unit) stops.files) stops.own)
-        ∙ ap (λ (before : Bytes). before ++ stops.own) (sym (flat_map-append (refusal_line settings.unit) gathered.files stops.files));
+        (λ i. gathered.says.lines i ++ stops.said i) ∙ sym (append_assoc (flat_map (refusal_line settings.format) gathered.files) (flat_map (refusal_line settings.format) stops.files) stops.own)
+        ∙ ap (λ (before : Bytes). before ++ stops.own) (sym (flat_map-append (refusal_line settings.format) gathered.files stops.files));
     cause = Causes-after names more stops.later stops.own stops.cause;
   }

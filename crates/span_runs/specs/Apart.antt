@@ -19,7 +19,7 @@ pub record IsAccounted (settings : Settings) (file : Input) : Type 0 where
 
 -- The file of this name was read and collected alone, and its run ended, not with 2.
 pub record IsFileRun (source : SourceBytes) (name : Name) (settings : Settings) (run : FileRun) : Type 0 where
-  pub read : IsInput source name run.file
+  pub read : IsInput source settings name run.file
   pub account : SealedAccount (run.file ∷ []) [] settings run.collected.end.ends.items run.collected.end.asked run.collected.end.sealing run.collected.ledger.journal
   pub status : status_of run.collected.end.ends.items run.collected.end.asked run.collected.end.sealing < 2
   pub one : length run.collected.end.ends.items ≡ 1
@@ -38,7 +38,7 @@ pub record IsShorter (cut : ℕ) (old new : FileRun) : Type 0 where
 -- order.
 pub record AreGathered (source : SourceBytes) (names : List Name) (settings : Settings) (ComeTo : List Run → Type 0) (said : Said) : Type 0 where
   pub files : List Input
-  pub read : AreInputs source names files
+  pub read : AreInputs source settings names files
   pub accounted : All (IsAccounted settings) files
   pub runs : ComeTo (map (run_alone settings) files)
   pub says : SaysOfFiles settings files said
@@ -50,7 +50,7 @@ GathersFiles source names settings ComeTo gathered = AreGathered source names se
 -- one more file is gathered
 pub record AddsFile {T : Type 0} (source : SourceBytes) (name : Name) (settings : Settings) (ComeTo : List Run → T → Type 0) (old new : Gathered T) : Type 0 where
   pub file : Input
-  pub read : IsInput source name file
+  pub read : IsInput source settings name file
   pub accounted : IsAccounted settings file
   pub runs : (runs : List Run) → ComeTo runs old.runs → ComeTo (runs ++ run_alone settings file ∷ []) new.runs
   pub says : SaysMore settings file old.said new.said

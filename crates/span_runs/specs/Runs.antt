@@ -13,7 +13,7 @@ run_of_files files ends journal = run_of journal (length files) (unread_of ends)
 
 -- the run of these files where they are read in turn
 abbrev pub run_in_turn : Settings → List Input → Run
-run_in_turn settings files = run_of_files files (ends_from settings.unit 1 files) (journal_in_turn settings files [])
+run_in_turn settings files = run_of_files files (ends_from settings.format 1 files) (journal_in_turn settings files [])
 
 -- the same run, of which the column of files has this
 abbrev pub labelled : Bytes → Run → Run

@@ -20,7 +20,7 @@ module _ (source : SourceBytes) (settings : Settings) where
   -- the file of this name was read, and its run was refused, as the line says
   pub record IsRefused (name : Name) (lines : Bytes) : Type 0 where
     pub file : Input
-    pub read : IsInput source name file
+    pub read : IsInput source settings name file
     pub error : RunError
     pub refused : IsNotCollected error (file ∷ []) [] settings
     pub said : lines ≡ run_line (run_code error)
@@ -28,7 +28,7 @@ module _ (source : SourceBytes) (settings : Settings) where
   -- the file of this name was collected alone, and its run ended with 2, as these lines say
   pub record IsCut (name : Name) (lines : Bytes) : Type 0 where
     pub file : Input
-    pub read : IsInput source name file
+    pub read : IsInput source settings name file
     pub ends : List FileEnd
     pub asked : Asked
     pub sealing : Sealing
@@ -53,10 +53,10 @@ module _ (source : SourceBytes) (settings : Settings) where
     pub later : List Name
     pub split : names ≡ done ++ later
     pub files : List Input
-    pub read : AreInputs source done files
+    pub read : AreInputs source settings done files
     pub accounted : All (IsAccounted settings) files
     pub own : Bytes
-    pub said : lines ≡ flat_map (refusal_line settings.unit) files ++ own
+    pub said : lines ≡ flat_map (refusal_line settings.format) files ++ own
     pub cause : StopsAtFirst later own ⊎ ((2 ^ 32 ≤ length names) × (own ≡ run_line (number_of FileCount)))
 
 -- this is said with lines before it, unless memory for them was refused

@@ -63,7 +63,7 @@ pub fn collect_file<S: Source, R: Threads + Wait + RandomSource + Sync>(
     ensures collected { IfOk result (IsFileRun (S.bytes source.now) name.now settings.now) }
     ensures stop { IfErr result (OfStop (StopsAt (S.bytes source.now) settings.now name.now)) }
 {
-    let file = match read_input(alloc, source, name) {
+    let file = match read_input(alloc, source, name, settings) {
         Ok(file) => file,
         Err(halt) => return Err(halt),
     };

@@ -4,24 +4,26 @@ ghost use Rattle.span_runs.specs.{IsHint, unread_line, Inputs.IsInput, Source.pr
 
 use crate::source::{Name, Source, SourceFault};
 use crate::stop::Halt;
-use span_collect::Input;
+use span_collect::{Input, Settings};
 use span_event::Fault;
 use span_faults::{Hint, Reason, hint_line};
 use std::alloc::{AllocError, Global};
 
-// The most bytes that are read of a file: one more than it may have, so that a longer one is refused.
-const MOST_READ: u64 = 67_108_865;
-
-/// What the name stands for.
-pub fn read_input<S: Source>(alloc: Global, source: &S, name: &Name) -> Result<Input, Halt>
-    ensures read { IfOk result (IsInput (S.bytes source.now) name.now) }
+/// What the name stands for. One byte more is read of it than a file may have, so that a longer one is refused.
+pub fn read_input<S: Source>(
+    alloc: Global,
+    source: &S,
+    name: &Name,
+    settings: &Settings,
+) -> Result<Input, Halt>
+    ensures read { IfOk result (IsInput (S.bytes source.now) settings.now name.now) }
     ensures unread { IfErr result (OfStop (λ lines. lines ≡ unread_line (printed name.now))) }
 {
     let printed = match name.printed(alloc) {
         Ok(printed) => printed,
         Err(_) => return Err(Halt::Memory),
     };
-    match source.read(name, MOST_READ) {
+    match source.read(name, u64::from(settings.format.most_bytes) + 1) {
         Ok(bytes) => Ok(Input {
             name: printed,
             bytes,
