@@ -2,9 +2,9 @@
 #![tactic(auto)]
 
 use span_tasks::{
-    AskedNumbers, Audience, Column, DEFAULT_SETTINGS, Files, Items, LinesTo, Named, Narrowing,
-    Number, Of, Place, Request, Session, Shown, TableForm, TableOptions, TableText, Tabulation,
-    Task, Text, Unwatched, Writer,
+    AskedNumbers, Audience, Column, Files, Items, LinesTo, Named, Narrowing, Number, Of, Place,
+    Request, Session, Shown, TableForm, TableOptions, TableText, Tabulation, Task, Text, Unwatched,
+    Writer, default_settings,
 };
 use std::alloc::{AllocError, Global};
 use std::process::ExitCode;
@@ -27,7 +27,7 @@ fn request_of(alloc: Global, given: Vec<Text>) -> Result<Request, AllocError> {
         shown: Shown { only, skip },
     };
     let task = Task::Tabulate(Tabulation {
-        items: Items::Apart(DEFAULT_SETTINGS),
+        items: Items::Apart(default_settings()),
         jobs: None,
         options,
         text: TableText::Table(TableForm::Ranking { most: 10 }),

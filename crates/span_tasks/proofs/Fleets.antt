@@ -101,9 +101,9 @@ part-whole wanted kind part text table found is own =
     }
 
 -- what is printed of files
-files-print : (settings : Settings) (options : TableOptions) (wanted : Wanted) (runs : List Run) (text : Bytes) (unit : TimeUnit) (table : SpanTable) → options.shown ≡ wanted → unit ≡ settings.unit
+files-print : (settings : Settings) (options : TableOptions) (wanted : Wanted) (runs : List Run) (text : Bytes) (unit : TimeUnit) (table : SpanTable) → options.shown ≡ wanted → unit ≡ settings.format.unit
     → table ≡ table_of (schema_of options) runs → IsPrint unit text (shown_table options.shown table)
-    → IsPrint settings.unit text (shown_table wanted (table_of (schema_of options) runs))
+    → IsPrint settings.format.unit text (shown_table wanted (table_of (schema_of options) runs))
 files-print settings options wanted runs text unit table shows in_unit is print =
     let all = table_of (schema_of options) runs in
     subst (λ (u : TimeUnit). IsPrint u text (shown_table wanted all)) in_unit

@@ -11,19 +11,19 @@ use Rattle.span_request.specs.declared.views.View.{View, TheVariants.{Folded, Pa
 use Rattle.span_tasks.specs.{Entry, FileEnd, Input, Asked, Sealing, Settings, AreSeparate, ends_from, journal_in_turn, text_in_turn, status_of, SealedAccount, page_of, json_of, narrowed, SpanTable, Summed.summed_of, Together.{page_table, text_of}}
 
 module _ (files : List Input) (settings : Settings) (ends : List FileEnd) (asked : Asked) (sealing : Sealing) (journal : List Entry)
-    (account : SealedAccount files [] settings ends asked sealing journal) (separate : AreSeparate settings.unit files) (below : status_of ends asked sealing < 2) where
+    (account : SealedAccount files [] settings ends asked sealing journal) (separate : AreSeparate settings.format files) (below : status_of ends asked sealing < 2) where
   alike : AreAlike journal (journal_in_turn settings files [])
   alike = AreAlike-in_turn files [] settings ends asked sealing journal account separate below
 
   -- each view
-  pub text_of-in_turn : (view : View) → text_of settings.unit view files ends journal ≡ text_in_turn (text_of settings.unit view files) files [] settings
-  text_of-in_turn (Report warns) = report_of-alike settings.unit journal (journal_in_turn settings files []) alike
+  pub text_of-in_turn : (view : View) → text_of settings.format.unit view files ends journal ≡ text_in_turn (text_of settings.format.unit view files) files [] settings
+  text_of-in_turn (Report warns) = report_of-alike settings.format.unit journal (journal_in_turn settings files []) alike
   text_of-in_turn Refusals = refusals_of-in_turn files [] settings ends asked sealing journal account separate below
   text_of-in_turn (Folded labels) = (stacks-alike journal (journal_in_turn settings files []) alike).text labels.items
   text_of-in_turn (Page view) =
-      page_of-alike settings.unit view.labels.items (json_of settings.unit view.options.shown (page_table view files ends journal)) files ends (ends_from settings.unit 1 files) journal (journal_in_turn settings files []) alike
+      page_of-alike settings.format.unit view.labels.items (json_of settings.format.unit view.options.shown (page_table view files ends journal)) files ends (ends_from settings.format 1 files) journal (journal_in_turn settings files []) alike
       (refusals_of-in_turn files [] settings ends asked sealing journal account separate below) (end_lines-in_turn files [] settings ends asked sealing journal account separate below)
-      ∙ ap (λ (table : SpanTable). page_of settings.unit view.labels.items (json_of settings.unit view.options.shown (narrowed view.options.narrowing table)) files (ends_from settings.unit 1 files) (journal_in_turn settings files []))
+      ∙ ap (λ (table : SpanTable). page_of settings.format.unit view.labels.items (json_of settings.format.unit view.options.shown (narrowed view.options.narrowing table)) files (ends_from settings.format 1 files) (journal_in_turn settings files []))
       (table_of_run-in_turn files settings ends asked sealing journal account separate below (summed_of view.options))
 
 -- the calls of one journal, and then more
@@ -36,7 +36,7 @@ pub journal_in_turn-legal : (settings : Settings) (files : List Input) → IsLeg
 journal_in_turn-legal settings files = by settings.seal
   where
     calls : List (ℕ × Op)
-    calls = calls_in_turn settings.unit files []
+    calls = calls_in_turn settings.format files []
 
     told : List Entry
     told = sequential settings.strict calls

@@ -32,7 +32,7 @@ abbrev mutual
 
 -- the runs of these files: of each alone, or of all together
 abbrev pub AreRunsOfFiles : SourceBytes → Bool → Settings → Listed → List Run → Type 0
-AreRunsOfFiles source true settings listed runs = (files : List Input) × AreInputs source listed.names.items files × All (IsAccounted settings) files × (runs ≡ map (shorter listed.cut) (map (run_alone settings) files))
+AreRunsOfFiles source true settings listed runs = (files : List Input) × AreInputs source settings listed.names.items files × All (IsAccounted settings) files × (runs ≡ map (shorter listed.cut) (map (run_alone settings) files))
 AreRunsOfFiles source false settings listed runs = (run : TogetherRun) × EndsWell source listed.names.items settings run
     × (runs ≡ run_of_files run.inputs.items run.collected.end.ends.items run.collected.ledger.journal ∷ [])
 
@@ -59,7 +59,7 @@ asked_schema options schema =
 abbrev mutual
   -- the kind of what a fleet prints
   pub kind_of : Fleet → TableKind
-  kind_of (of_files source apart settings options listed) = record { unit = settings.unit; schema = schema_of options }
+  kind_of (of_files source apart settings options listed) = record { unit = settings.format.unit; schema = schema_of options }
   kind_of (of_printed source options listed parts) = record { unit = (kind_of_first parts).unit; schema = asked_schema options (kind_of_first parts).schema }
 
   -- that of the first of some tables, which the others have too

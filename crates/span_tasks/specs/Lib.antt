@@ -21,10 +21,10 @@ unfoldable pub use Rattle.span_collect.specs.{FaultLines.fault_line, Words.numbe
 unfoldable pub use Rattle.span_report.specs.Lines.{json_text_of}
 unfoldable pub use Rattle.span_page.specs.{Page.page_of, Runs.page_of_runs}
 pub use Rattle.span_page.specs.{Bounds.{IsTooLong, most_bytes}, Runs.{BegunPage, Holds, ShownRun, TakesRun}}
-pub use Rattle.span_table.specs.{Adding.{IsSumOf, SummedTable, schema_by}, Columns.{Run, column_name}, Numbers.usual_numbers, Tables.{Schema, SpanTable, table_of}, declared.{audience.Audience.TheVariants.Programs, column.Column.Column, number.Number.Number}}
+pub use Rattle.span_table.specs.{Adding.{IsSumOf, schema_by}, Columns.{Run, column_name}, Numbers.usual_numbers, Tables.{KeyedSums, Schema, SpanTable, rows_of, table_of}, declared.{audience.Audience.TheVariants.Programs, column.Column.Column, number.Number.Number, table.Row.Row}}
 pub use Rattle.span_table_text.specs.{AskedNumbers.{leading_number, shown_numbers}, Json.{json_fits, json_of, shown_table}, Printed.{AllFit, AreColumns, IsPart, IsPrint, IsSchema}, Ranking.ranking_of, Shown.Wanted, declared.asked_numbers.AskedNumbers.AskedNumbers}
 pub use Rattle.span_narrowing.specs.{Narrowed.{is_plain, narrowed, shown_schema, summed_by, summed_schema}, declared.narrowing.Narrowing.Narrowing}
-pub use Rattle.span_stack_sums.specs.{Stacks.{IsStackSum, stacks_of}, Text.{IsTextOf, labels_in}}
+pub use Rattle.span_stack_sums.specs.{Stacks.{IsStackSum, Stands, stacks_of}, Text.{IsTextOf, labels_in}}
 pub use Rattle.span_comparisons.specs.{Comparison.comparison_of, JsonChanges.{json_changes_fit, json_comparison_of}, Repeats.{json_repeats_fit, json_repeats_of, repeats_of}}
 pub use Rattle.span_faults.specs.{FaultLines.{IsHint, fault_text, run_line, unread_line}, Warnings.warning_lines}
 pub use Rattle.span_runs.specs.{Apart.{AddsFile, AreGathered, GathersFiles, IsAccounted, IsFileRun, run_alone}, Folders.{AreFilesOf, Folder.unknown, SourceFolders, StopsListing}, Inputs.{AreInputs, IsInput}, Jobs.places, Names.{AreNamed, SaysOfNames}, Runs.{run_in_turn, run_of_files, shorter, shortened, table_of_run}, Source.{AreFirst, SourceBytes, printed}, Stops.{GathersOrStops, OfStop, StopsAfter, StopsAmong}, declared.{file_run.FileRun.FileRun, folders.Listed.Listed, gathered.Gathered.Gathered, said.Said.Said, names.Named.Named, source.Name.Name, stop.Halt.Halt}}

@@ -45,13 +45,13 @@ pub record IsOfRun (source : SourceBytes) (names : List Name) (settings : Settin
   pub run : TogetherRun
   pub ended : EndsWell source names settings run
   pub is : side.tables.items ≡ table_of_run (summed_of options) (run_of_files run.inputs.items run.collected.end.ends.items run.collected.ledger.journal) ∷ []
-  pub in_turn : AreSeparate settings.unit run.inputs.items → side.tables.items ≡ table_of_run (summed_of options) (run_in_turn settings run.inputs.items) ∷ []
+  pub in_turn : AreSeparate settings.format run.inputs.items → side.tables.items ≡ table_of_run (summed_of options) (run_in_turn settings run.inputs.items) ∷ []
   pub said : side.said.lines.items ≡ run.lines.items
   pub warned : side.said.warnings.items ≡ warnings_of run.inputs.items run.collected.end.ends.items run.collected.ledger.journal
 
 -- the tables are of what is asked for
 pub record AreOptions (settings : Settings) (options : TableOptions) (side : Side) : Type 0 where
-  pub unit : side.unit ≡ settings.unit
+  pub unit : side.unit ≡ settings.format.unit
   pub schema : side.schema ≡ summed_of options
 
 -- the tables are of what printed ones are

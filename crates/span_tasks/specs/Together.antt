@@ -5,7 +5,7 @@ use Rattle.span_tasks.specs.{Bytes, Entry, FileEnd, Input, Settings, RunError, S
 
 -- what is named was read and collected as one run, and a journal accounts for it
 pub record IsTogether (source : SourceBytes) (names : List Name) (settings : Settings) (run : TogetherRun) : Type 0 where
-  pub read : AreInputs source names run.inputs.items
+  pub read : AreInputs source settings names run.inputs.items
   pub account : SealedAccount run.inputs.items [] settings run.collected.end.ends.items run.collected.end.asked run.collected.end.sealing run.collected.ledger.journal
   pub status : run.collected.end.status ≡ status_of run.collected.end.ends.items run.collected.end.asked run.collected.end.sealing
 
@@ -19,7 +19,7 @@ pub record EndsWell (source : SourceBytes) (names : List Name) (settings : Setti
 -- its files were read, and the run was refused, as the line says
 pub record IsRefused (source : SourceBytes) (names : List Name) (settings : Settings) (lines : Bytes) : Type 0 where
   pub inputs : List Input
-  pub read : AreInputs source names inputs
+  pub read : AreInputs source settings names inputs
   pub error : RunError
   pub refused : IsNotCollected error inputs [] settings
   pub said : lines ≡ run_line (run_code error)
@@ -76,9 +76,9 @@ warned_of_view (Page view) files ends journal = warned_if true files ends journa
 pub record Collects (source : SourceBytes) (names : List Name) (settings : Settings) (view : View) (text lines warnings : Bytes) : Type 0 where
   pub run : TogetherRun
   pub ended : EndsWell source names settings run
-  pub fits : Fits settings.unit view run.inputs.items run.collected.end.ends.items run.collected.ledger.journal
-  pub is : text ≡ text_of settings.unit view run.inputs.items run.collected.end.ends.items run.collected.ledger.journal
-  pub in_turn : AreSeparate settings.unit run.inputs.items → text ≡ text_in_turn (text_of settings.unit view run.inputs.items) run.inputs.items [] settings
+  pub fits : Fits settings.format.unit view run.inputs.items run.collected.end.ends.items run.collected.ledger.journal
+  pub is : text ≡ text_of settings.format.unit view run.inputs.items run.collected.end.ends.items run.collected.ledger.journal
+  pub in_turn : AreSeparate settings.format run.inputs.items → text ≡ text_in_turn (text_of settings.format.unit view run.inputs.items) run.inputs.items [] settings
   pub said : lines ≡ run.lines.items
   pub warned : warnings ≡ warned_of_view view run.inputs.items run.collected.end.ends.items run.collected.ledger.journal
 
@@ -86,7 +86,7 @@ pub record Collects (source : SourceBytes) (names : List Name) (settings : Setti
 pub record HasExceeded (source : SourceBytes) (names : List Name) (settings : Settings) (view : View) (lines : Bytes) : Type 0 where
   pub run : TogetherRun
   pub ended : EndsWell source names settings run
-  pub exceeds : Exceeds settings.unit view run.inputs.items run.collected.end.ends.items run.collected.ledger.journal lines
+  pub exceeds : Exceeds settings.format.unit view run.inputs.items run.collected.end.ends.items run.collected.ledger.journal lines
 
 -- this is said where no view is printed
 abbrev pub StopsCollecting : SourceBytes → List Name → Settings → View → Bytes → Type 0

@@ -5,6 +5,7 @@ mod added;
 mod files;
 pub mod laws;
 mod outcome;
+mod page_sum;
 mod pages;
 mod place;
 mod printed;
@@ -25,13 +26,13 @@ pub use files::{Files, Unwatched, Watcher};
 pub use outcome::{Lines, LinesTo, Outcome};
 pub use place::Place;
 pub use session::Session;
-pub use span_collect::Settings;
+pub use span_collect::{Format, Settings};
 pub use span_event::{Text, Unit};
 pub use span_narrowing::{Condition, Narrowing};
 pub use span_report::{Sink, SinkFault, Writer};
 pub use span_request::{
-    Changes, ComparisonForm, DEFAULT_SETTINGS, Items, PageView, RepeatsForm, Repetitions, Request,
-    TableForm, TableOptions, TableText, Tabulation, Task, View,
+    Changes, ComparisonForm, Items, PageView, RepeatsForm, Repetitions, Request, TableForm,
+    TableOptions, TableText, Tabulation, Task, View, default_settings,
 };
 pub use span_runs::{FolderFault, Name, Named, Reason, Source, SourceFault};
 pub use span_table::{Audience, Column, Number, Of};

@@ -1,11 +1,11 @@
 //! A page of files each of which is a run of its own.
 ghost use Rattle.std.specs.Prelude.{◌≡◌, [], List, length, map, IfErr, IfOk};
-ghost use Rattle.span_tasks.specs.{Unit as TheUnit, Holds, OfStop, ShownRun, StopsAmong, TakesRun, Outcome.PrintsOrStops, Pages.{AddsShown, AreHeld, PrintsPage, StopsPage, asked_for, page_with, shown_alone, shown_run, shown_runs}, Texts.{PageExceeds, PageFits}};
+ghost use Rattle.span_tasks.specs.{Unit as TheUnit, Holds, KeyedSums, OfStop, ShownRun, SpanColumn as TheColumn, Stands, StopsAmong, TakesRun, json_of, page_of_runs, rows_of, Outcome.PrintsOrStops, Pages.{AddsShown, AreHeld, IsPageSum, PrintsPage, StopsPage, shown_alone, shown_run, shown_runs}, Texts.{PageExceeds, PageFits}};
 
 use crate::outcome::Print;
+use crate::page_sum::PageSum;
 use crate::place::Place;
 use crate::side::Apart;
-use crate::summed::summed_of;
 use crate::texts::{TableTexts, halt_of_page, string_of};
 use crate::warnings::warned_of_page;
 use span_collect::Settings;
@@ -14,8 +14,9 @@ use span_names::HashKeys;
 use span_narrowing::narrowed;
 use span_page::RunsPage;
 use span_request::{PageView, TableForm};
-use span_runs::{FileRun, Gathered, Halt, Listed, Name, Source, collect_file};
-use span_table::{Table, TableSum};
+use span_runs::{FileRun, Gathered, Halt, Listed, Name, Source, collect_file, gather_apart};
+use span_stack_sums::StackSum;
+use span_table::Table;
 use std::alloc::AllocError;
 use std::random::RandomSource;
 use std::slice::from_ref;
@@ -30,7 +31,7 @@ const MOST_SHOWN: usize = 64;
 struct ShownFiles {
     // Maps that files fill are hashed by these.
     keys: HashKeys,
-    summed: Gathered<TableSum>,
+    summed: Gathered<PageSum>,
     page: RunsPage,
 }
 
@@ -53,7 +54,8 @@ impl<'a, R: Threads + Wait + RandomSource + Sync, S: Source + Sync> Place<'a, R,
         };
         let ShownFiles { summed, page, .. } = shown;
         let Gathered { runs: sum, said } = summed;
-        let Ok(all) = sum.into_table() else {
+        let PageSum { table, stacks } = sum;
+        let Ok(all) = table.into_table() else {
             return Err(Halt::Memory);
         };
         let keys = HashKeys::random(self.rt);
@@ -63,7 +65,13 @@ impl<'a, R: Threads + Wait + RandomSource + Sync, S: Source + Sync> Place<'a, R,
         let Ok(warnings) = warned_of_page(self.alloc, view, &table, &said.warnings) else {
             return Err(Halt::Memory);
         };
-        match self.text_of_runs(apart.settings.unit, view, table, page) {
+        let texts = TableTexts {
+            alloc: self.alloc,
+            unit: apart.settings.format.unit,
+            says_runs: true,
+            options: &view.options,
+        };
+        match self.text_of_runs(&texts, table, page, stacks) {
             Ok(text) => Ok(Print {
                 text,
                 lines: said.lines,
@@ -97,7 +105,16 @@ impl<'a, R: Threads + Wait + RandomSource + Sync, S: Source + Sync> Place<'a, R,
         let Ok(page) = RunsPage::begin(self.alloc) else {
             return Err(Halt::Memory);
         };
-        match self.gather(&apart, &view.options, files) {
+        let gathered = gather_apart(
+            self.rt,
+            self.alloc,
+            self.source,
+            files,
+            &apart.settings,
+            view,
+            self.jobs_of(apart.jobs),
+        );
+        match gathered {
             Ok(summed) => Ok(ShownFiles {
                 keys: HashKeys::random(self.rt),
                 summed,
@@ -134,18 +151,16 @@ impl<'a, R: Threads + Wait + RandomSource + Sync, S: Source + Sync> Place<'a, R,
     }
 
     fn show_none(&self, view: &PageView) -> Result<ShownFiles, AllocError>
-        ensures sum { IfOk result (λ none. asked_for view.now [] none.summed.runs) }
+        ensures sum { IfOk result (λ none. IsPageSum view.now [] none.summed.runs) }
         ensures lines { IfOk result (λ none. none.summed.said.lines.items ≡ []) }
         ensures warnings { IfOk result (λ none. none.summed.said.warnings.items ≡ []) }
         ensures runs { IfOk result (λ none. (unit : TheUnit)
             → Holds unit view.now.labels.items [] none.page) }
     {
-        let options = &view.options;
         let keys = HashKeys::random(self.rt);
-        let schema = summed_of(self.alloc, options)?;
         Ok(ShownFiles {
             keys,
-            summed: Gathered::of_none(self.alloc, keys, &schema)?,
+            summed: Gathered::of_none(self.alloc, keys, view)?,
             page: RunsPage::begin(self.alloc)?,
         })
     }
@@ -173,13 +188,10 @@ impl<'a, R: Threads + Wait + RandomSource + Sync, S: Source + Sync> Place<'a, R,
         let Ok(taken) = taken.shorter(self.alloc, cut) else {
             return Err(Halt::Memory);
         };
-        let Ok(page) = self.with_run(settings.unit, view, page, &taken) else {
+        let Ok(page) = self.with_run(settings.format.unit, view, page, &taken) else {
             return Err(Halt::Memory);
         };
-        let Ok(schema) = summed_of(self.alloc, &view.options) else {
-            return Err(Halt::Memory);
-        };
-        match summed.with_run(self.alloc, keys, &schema, &taken) {
+        match summed.with_run(self.alloc, keys, view, &taken) {
             Ok(summed) => Ok(ShownFiles { keys, summed, page }),
             Err(halt) => Err(halt),
         }
@@ -206,29 +218,27 @@ impl<'a, R: Threads + Wait + RandomSource + Sync, S: Source + Sync> Place<'a, R,
         )
     }
 
-    // The page of runs, with the table of all.
+    // The page of runs, with the table of all, and the graph of all their stacks.
     fn text_of_runs(
         &self,
-        unit: Unit,
-        view: &PageView,
+        texts: &TableTexts,
         table: Table,
         page: RunsPage,
+        stacks: StackSum,
     ) -> Result<Vec<u8>, Halt>
-        ensures text { IfOk result (λ text. (runs : List ShownRun)
-            → Holds unit view.now.labels.items runs page
-            → text.items ≡ page_with unit view.now table runs) }
+        ensures text { IfOk result (λ text.
+            (labels : List TheColumn) (runs : List ShownRun) (sums : KeyedSums)
+            → Holds texts.now.unit labels runs page → Stands stacks.rows sums
+            → text.items ≡ page_of_runs texts.now.unit labels
+            (json_of texts.now.unit texts.now.options.now.shown table) (rows_of sums) runs) }
         ensures fits { IfOk result (λ text.
-            PageFits view.now.options.shown table text.items) }
-        ensures stop { IfErr result (OfStop (λ lines. (runs : List ShownRun)
-            → Holds unit view.now.labels.items runs page → PageExceeds view.now.options.shown table
-            (page_with unit view.now table runs) lines)) }
+            PageFits texts.now.options.now.shown table text.items) }
+        ensures stop { IfErr result (OfStop (λ lines.
+            (labels : List TheColumn) (runs : List ShownRun) (sums : KeyedSums)
+            → Holds texts.now.unit labels runs page → Stands stacks.rows sums
+            → PageExceeds texts.now.options.now.shown table (page_of_runs texts.now.unit labels
+            (json_of texts.now.unit texts.now.options.now.shown table) (rows_of sums) runs) lines)) }
     {
-        let texts = TableTexts {
-            alloc: self.alloc,
-            unit,
-            says_runs: true,
-            options: &view.options,
-        };
         let text = match texts.table(TableForm::Json, &table) {
             Ok(text) => text,
             Err(halt) => return Err(halt),
@@ -237,7 +247,7 @@ impl<'a, R: Threads + Wait + RandomSource + Sync, S: Source + Sync> Place<'a, R,
         let Ok(text) = string_of(text) else {
             return Err(Halt::Memory);
         };
-        match page.end(self.alloc, text) {
+        match page.end(self.alloc, text, stacks) {
             Ok(page) => Ok(page),
             Err(fault) => Err(halt_of_page(self.alloc, fault)),
         }

@@ -89,7 +89,7 @@ impl<'a, R: Threads + Wait + RandomSource + Sync, S: Source + Sync> Place<'a, R,
             Ok(run) => run,
             Err(halt) => return Err(halt),
         };
-        match self.side_of_run(settings.unit, options, run) {
+        match self.side_of_run(settings.format.unit, options, run) {
             Ok(side) => Ok(side),
             Err(_) => Err(Halt::Memory),
         }
@@ -160,7 +160,7 @@ impl<'a, R: Threads + Wait + RandomSource + Sync, S: Source + Sync> Place<'a, R,
         let Ok(tables) = only(self.alloc, table) else {
             return Err(Halt::Memory);
         };
-        self.side_of(apart.settings.unit, options, tables, said)
+        self.side_of(apart.settings.format.unit, options, tables, said)
     }
 
     /// The table of each of the files, which are runs of their own.
@@ -183,7 +183,7 @@ impl<'a, R: Threads + Wait + RandomSource + Sync, S: Source + Sync> Place<'a, R,
             Err(halt) => return Err(halt),
         };
         let Gathered { runs: tables, said } = tables;
-        self.side_of(apart.settings.unit, options, tables, said)
+        self.side_of(apart.settings.format.unit, options, tables, said)
     }
 
     fn side_of(

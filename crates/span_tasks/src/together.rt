@@ -59,7 +59,7 @@ impl<'a, R: Threads + Wait + RandomSource + Sync, S: Source + Sync> Place<'a, R,
             Ok(run) => run,
             Err(halt) => return Err(halt),
         };
-        let made = self.made_of_view(settings.unit, view, &run.inputs, &run.collected);
+        let made = self.made_of_view(settings.format.unit, view, &run.inputs, &run.collected);
         let TogetherRun {
             inputs,
             collected,
@@ -89,7 +89,7 @@ impl<'a, R: Threads + Wait + RandomSource + Sync, S: Source + Sync> Place<'a, R,
         ensures stop { IfErr result
             (OfStop (StopsTogether (S.bytes self.now.source.now) names.now settings.now)) }
     {
-        let inputs = match self.read_inputs(names) {
+        let inputs = match self.read_inputs(settings, names) {
             Ok(inputs) => inputs,
             Err(halt) => return Err(halt),
         };
@@ -102,7 +102,7 @@ impl<'a, R: Threads + Wait + RandomSource + Sync, S: Source + Sync> Place<'a, R,
             return Err(Halt::Memory);
         };
         let lines = lines.into_bytes();
-        let hints = self.hints_of_run(settings.unit, &inputs, &collected);
+        let hints = self.hints_of_run(settings.format.unit, &inputs, &collected);
         if collected.end.status == 2 {
             return Err(Halt::Stopped(Stop { lines, hints }));
         }
@@ -115,9 +115,9 @@ impl<'a, R: Threads + Wait + RandomSource + Sync, S: Source + Sync> Place<'a, R,
     }
 
     // What is named, as it is read. The first that cannot be read decides.
-    fn read_inputs(&self, names: &[Name]) -> Result<Vec<Input>, Halt>
+    fn read_inputs(&self, settings: &Settings, names: &[Name]) -> Result<Vec<Input>, Halt>
         ensures read { IfOk result (λ inputs.
-            AreInputs (S.bytes self.now.source.now) names.now inputs.items) }
+            AreInputs (S.bytes self.now.source.now) settings.now names.now inputs.items) }
         ensures stop { IfErr result (OfStop (λ lines. (name : TheName)
             × Contains names.now name × (lines ≡ unread_line (printed name)))) }
     {
@@ -125,7 +125,7 @@ impl<'a, R: Threads + Wait + RandomSource + Sync, S: Source + Sync> Place<'a, R,
             return Err(Halt::Memory);
         };
         for name in names {
-            let input = match read_input(self.alloc, self.source, name) {
+            let input = match read_input(self.alloc, self.source, name, settings) {
                 Ok(input) => input,
                 Err(halt) => return Err(halt),
             };

@@ -8,7 +8,7 @@ use Rattle.span_tasks.proofs.place.Place.read_inputs.Goals as goal
 pub loop-name-preserved : goal.loop-name-preserved
 loop-name-preserved g c =
     rw (c.in-Ok-push.ensures.items, take_more c.args.names.now c.loop-name.name-index c.name-item.result c.loop-name-test.true, sym c.name-item.is)
-    (AllZip-append (IsInput (g.S.Source.bytes c.args.self.now.source.now)) (take c.loop-name.name-index c.args.names.now) (c.name-item.result ∷ []) c.loop-name.inputs.items (c.in-Ok-read_input.input ∷ []) c.loop-name.invariant (c.in-Ok-read_input.ensures.read, tt))
+    (AllZip-append (IsInput (g.S.Source.bytes c.args.self.now.source.now) c.args.settings.now) (take c.loop-name.name-index c.args.names.now) (c.name-item.result ∷ []) c.loop-name.inputs.items (c.in-Ok-read_input.input ∷ []) c.loop-name.invariant (c.in-Ok-read_input.ensures.read, tt))
 
 -- one was not
 pub returns-in-Err-clause-stop : goal.returns-in-Err-clause-stop
