@@ -3,8 +3,8 @@ import json
 import re
 from fractions import Fraction
 
-MOST_BYTES = 67_108_864
-MOST_ELEMENTS = 4_194_304
+MOST_BYTES, MOST_ELEMENTS = 67_108_864, 4_194_304
+MOST_LARGE = 2**32 - 1
 DEEPEST = 127
 BLANKS = " \t\n\r"
 
@@ -80,9 +80,9 @@ def document_of(text):
     raise Refused(1)
 
 
-def elements_of(data):
-    """The elements of a file's bytes."""
-    if len(data) > MOST_BYTES:
+def elements_of(data, large=False):
+    """The elements of a file's bytes, or of those of a large one."""
+    if len(data) > (MOST_LARGE if large else MOST_BYTES):
         raise Refused(3)
     try:
         text = data.decode("utf-8")
@@ -92,7 +92,7 @@ def elements_of(data):
     elements = document.get("traceEvents") if type(document) is dict else document
     if type(elements) is not list:
         raise Refused(2)
-    if len(elements) > MOST_ELEMENTS:
+    if len(elements) > (MOST_LARGE if large else MOST_ELEMENTS):
         raise Refused(4)
     return elements
 

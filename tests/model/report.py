@@ -3,9 +3,9 @@
 docs/ledger.md (ledger.py), and prints the report of docs/report.md. It is written from these pages alone and shares nothing with
 the program, so that the two can be compared. It knows no limit of the journal or of the files of a run, and no workers.
 
-Where --nanoseconds is given, files with refused events are warned of.
+Where --nanoseconds or --large is given, files with refused events are warned of.
 
-usage: report.py [--seal] [--strict] [--nanoseconds] [FILE...]
+usage: report.py [--seal] [--strict] [--large] [--nanoseconds] [FILE...]
 """
 import gc
 import sys
@@ -107,13 +107,13 @@ def report_of(ledger):
     return text_of(report_lines(ledger))
 
 
-def collect(files, strict=False, unit=MICROSECONDS):
+def collect(files, strict=False, unit=MICROSECONDS, large=False):
     """The ledger of files, each a name and its bytes, and what is said of them."""
     ledger, said = Ledger(strict, unit), Said()
     for name, data in files:
         accepted, refused = ledger.accepted, Counter(ledger.refused)
         try:
-            for element in elements_of(data):
+            for element in elements_of(data, large):
                 ledger.take(element)
         except Refused as refusal:
             said.refuse(name, refusal.number)
@@ -132,18 +132,18 @@ def bytes_of(path):
 def main():
     gc.disable()  # Nothing here is let go in rings, and to look for them takes long.
     words = sys.argv[1:]
-    names = [word for word in words if word not in ("--seal", "--strict", "--nanoseconds")] or [STANDARD_INPUT]
+    names = [word for word in words if word not in ("--seal", "--strict", "--large", "--nanoseconds")] or [STANDARD_INPUT]
     unit = NANOSECONDS if "--nanoseconds" in words else MICROSECONDS
     try:
         paths = [file.path for file in files_of(names)]
     except Stopped as stopped:
         print(stopped, file=sys.stderr)
         return 2
-    ledger, said = collect(((path, bytes_of(path)) for path in paths), "--strict" in words, unit)
+    ledger, said = collect(((path, bytes_of(path)) for path in paths), "--strict" in words, unit, "--large" in words)
     if "--seal" in words:
         ledger.seal()
     sys.stdout.buffer.write(report_of(ledger))
-    for line in said.lines() if "--nanoseconds" in words else said.faults:
+    for line in said.lines() if "--nanoseconds" in words or "--large" in words else said.faults:
         print(line, file=sys.stderr)
     return 1 if said.faults else 0
 

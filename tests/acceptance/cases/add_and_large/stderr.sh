@@ -1,0 +1,2 @@
+# The text of a wrong command line isn't fixed.
+grep -q . && echo 'a text'
