@@ -5,7 +5,7 @@ import os
 from page_texts import data_of, page_text
 from pages import Graph, Keys, MadePage, Page, expect
 from views import BRIEF, LONG, RIGHT, TURNED, TURNED_SHOWN
-from views import check_narrow, check_odd_elements, named, order_of, others, put_traces, ready_of, span, time_of
+from views import check_narrow, check_odd_elements, click_row, named, order_of, others, put_traces, ready_of, span, time_of
 
 # Marks that keep the direction of a name in a choice to itself.
 ISOLATING = str.maketrans("", "", "\u2068\u2069")
@@ -86,13 +86,13 @@ LINES = ["worker (3) of process tool (7) in two.json", "main (1) of process app 
 FIRST_OTHERS = {
     "Async spans (2)": [["load", "30", "1", "0", "0", "net", '""', "5", "one.json"]],
     "Flows (2)": [["hop", "30", "1", "0", '""', "x (process 7)", "one.json"]],
-    "Counters (2)": [["heap", "used", "1", "30", "30", "30", "app (7)", "-", "one.json"]],
+    "Counters (2)": [["heap", "used", "1", "30", "30", "30", "app (7)", "one.json"]],
     "Instants (2)": [["paint", "1", "app (7)", "main (1)", "process", "one.json"]],
 }
 SECOND_OTHERS = {
     "Async spans (2)": [["load", "45", "1", "0", "0", "net", '""', "5", "two.json"]],
     "Flows (2)": [["hop", "45", "1", "0", '""', "x (process 7)", "two.json"]],
-    "Counters (2)": [["heap", "used", "1", "45", "45", "45", "tool (7)", "-", "two.json"]],
+    "Counters (2)": [["heap", "used", "1", "45", "45", "45", "tool (7)", "two.json"]],
     "Instants (2)": [["paint", "1", "tool (7)", "1", "process", "two.json"]],
 }
 
@@ -190,6 +190,32 @@ def check_zooms(page):
     expect("the address of one zoom", page.fragment(), "#zoom=3.8.1.1")
 
 
+# The names of processes and threads, and then labels: a stack begins with `-` where it has no such name.
+WHOLE = [
+    [("all files", 0, 390)],
+    [("tool", 0, 200), ("app", 200, 150), ("-", 350, 40)],
+    [("worker", 0, 200), ("main", 200, 100), ("-", 300, 50), ("-", 350, 40)],
+    [("gamma", 0, 200), ("alpha", 200, 100), ("aside", 300, 50), ("alpha", 350, 40)],
+    [("beta", 0, 20), ("beta", 200, 30)],
+]
+
+
+def check_whole(page):
+    """The graph of all files stands open above those of threads, whatever is narrowed to; words mark its frames, and the address has its
+    zoom."""
+    expect("whether the graph of all files stands open", page.element("#thread-whole").get_property("open"), True)
+    graph = Graph(page, "whole")
+    graph.expect("the graph of all files", 390, WHOLE)
+    page.write("beta")
+    expect("marks in the graph of all files", graph.text(".graph > .status"), "2 frames marked, together 50 \u00b5s, 12.8 % of all busy time")
+    page.write("")
+    page.open("#zoom=all.1&zoom=all.7")
+    expect("the address of a zoom of all files", kept(page), "#zoom=all.7")
+    page.open("#file=1")
+    expect("the graph of all files of one", Graph(page, "whole").boxes()[1][0][0], "tool")
+    page.open("#")
+
+
 def check_odd_fragments(page):
     """What the page doesn't have of an address is left out, and so is what is of another file than the one that is narrowed to."""
     everything = ["", "all files", "all processes", "all threads"]
@@ -231,7 +257,7 @@ def check_keys(page):
 def try_threads(driver, program, folder):
     put_traces(folder, THREADS)
     page = Page(driver, program, ["--apart", *THREADS], status=1, folder=folder)
-    for check in [check_head, check_all_files, check_narrowing, check_zooms, check_odd_fragments, check_keys]:
+    for check in [check_head, check_all_files, check_whole, check_narrowing, check_zooms, check_odd_fragments, check_keys]:
         check(page)
     others(page)
     Graph(page, 0)
@@ -329,8 +355,7 @@ def check_narrowing_to_files(page):
 def check_marks_of_files(page):
     """A click on a row marks the frames of its file's graph."""
     for row, place, marked in [(2, 0, "100 \u00b5s, 100.0 %"), (1, 1, "300 \u00b5s, 100.0 %"), (4, 0, "10 \u00b5s, 10.0 %")]:
-        page.run("scrollTo(0, 0)")
-        page.click(f"#names tbody tr:nth-child({row}) button")
+        click_row(page, row)
         said = Graph(page, place).text(".graph > .status")
         expect(f"what row {row} marks", said, f"1 frame marked, {marked} of the thread's busy time")
         expect(f"the focus after row {row}", page.run("return document.activeElement.closest('details').id"), f"thread-{place}")
@@ -419,7 +444,7 @@ def try_odd_names(driver, program, folder):
     expect("the graph of an odd name", page.run("return document.activeElement.closest('details').id"), "thread-2")
     others(page)
     Graph(page, 0)
-    check_narrow(page, 2 * (len(ODD) + 1))
+    check_narrow(page, 2 * (len(ODD) + 1) + 2)  # of names, of counters, and of callers and callees
     check_odd_elements(page)
     page.expect_silence()
 
@@ -435,21 +460,21 @@ def try_many(driver, program, folder):
     page = Page(driver, program, ["--apart", "--group-by", "file,pid,tid,name", *many], folder=folder)
     ready = ready_of(page, "the page of 64 files")
     said = page.text("#names .status")
-    expect("rows of 64 files", said.split(";")[0], f"20 of {64 * names:,} rows shown")
+    expect("rows of 64 files", said.split(";")[0], f"10 of {64 * names:,} rows shown")
     expect("files to choose", options(page, "file"), ["all files", *many])
     page.click("#files summary")
     expect("names of 64 files", names_of_files(page), list(many))
     expect("counts of 64 files", page.text("#counts").split(),
            f"64 files {64 * names:,} events 64 refused 0 skipped 0 queries 64 processes 64 threads".split())
     lengths = page.run("return [...document.querySelectorAll('#warnings ul')].map(list => list.children.length)")
-    expect("refusals that stand open and closed", lengths, [20, 44])
-    expect("what the closed ones are called", page.text("#warnings summary"), "44 more")
+    expect("refusals that stand open and closed", lengths, [10, 54])
+    expect("what the closed ones are called", page.text("#warnings summary"), "54 more")
     slowest = time_of(page, "narrowing to a file", """
         const choice = document.getElementById("file");
         choice.selectedIndex = 64;
         choice.dispatchEvent(new Event("change", { bubbles: true }));
     """)
-    expect("rows of a file of 64", page.text("#names .status").split(";")[0], f"20 of {names:,} rows shown, narrowed from {64 * names:,}")
+    expect("rows of a file of 64", page.text("#names .status").split(";")[0], f"10 of {names:,} rows shown, narrowed from {64 * names:,}")
     expect("the graph of a file of 64", lines_of_graphs(page), ["1 of process 7 in 63.json"])
     slowest = max(slowest, time_of(page, "sorting by file", "document.querySelector('#names th:last-child button').click()"))
     slowest = max(slowest, time_of(page, "clicking on a row", "document.querySelector('#names tbody button').click()"))
@@ -471,17 +496,17 @@ def check_without_runs(page, spans):
     expect("counts without runs", page.text("#counts").split(), f"65 files {spans:,} events 64 refused 0 skipped 0 queries".split())
     expect("what is said of files without runs", page.text("#warnings > :first-child"),
            "Files that are no traces as a whole, of which nothing is here: 1. Standard error said why.")
-    expect("what is lacking", page.text("#graphs-shown"), "A page of more than 64 files that are runs of their own has their counts and the "
-           "table of their spans alone: there are no flame graphs here, and nothing else that was traced.")
-    offers = "#file, #process, #thread, #order, #files, #more-graphs, #left-out, #over-files"
+    expect("what is lacking", page.text("#graphs-shown"), "A page of more than 64 files that are runs of their own has their counts, the "
+           "table of their spans and the flame graph of all: none of a thread is here, and nothing else that was traced.")
+    offers = "#file, #process, #thread, #files, #more-graphs, #left-out, #over-files"
     shown = "return [...document.querySelectorAll(arguments[0])].filter(one => one.checkVisibility()).map(one => one.id)"
     expect("what is offered without runs", page.run(shown, offers), [])
     expect("what else is said", (page.run("return others.children.length"), page.text("#names-title + .hint")),
            (0, "Times are whole microseconds. A click on a column sorts. The address shows the view again."))
     page.write("last")
     expect("rows without runs", page.rows("#names"), [["last", "5", "5", "1", "7", "1"]])
-    expect("whether a row leads to a graph", page.run("return names.querySelector('tbody button').disabled"), True)
     page.click("#names tbody td")
+    expect("what a row marks without runs", Graph(page, "whole").text(".status"), "1 frame marked, 5 \u00b5s, < 0.1 % of all busy time")
     page.open("#words=last&file=1&process=1.7&thread=7.1&zoom=7.1.0&sort=name")
     expect("the address without runs", kept(page), "#words=last&sort=name")
     check_odd_elements(page)

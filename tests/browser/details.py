@@ -1,6 +1,6 @@
 """Spans with details, which a table has a column for: rows, labels of frames, and what a row marks."""
 from pages import Graph, Keys, Page, expect
-from views import BRIEF, LONG, RIGHT, check_narrow, check_odd_elements, put_traces, span
+from views import BRIEF, FIRST_ROWS, LONG, RIGHT, check_narrow, check_odd_elements, click_row, put_traces, span
 
 
 def detailed(thread, name, start, length, *detail):
@@ -77,8 +77,7 @@ def check_details_graph(page):
         ("2", 1, "button", other, "1 frame marked, 25 \u00b5s, 41.7 %"),
     ]:
         page.choose("thread", thread)
-        page.run("scrollTo(0, 0)")
-        page.click(f"#names tbody tr:nth-child({row}) {place}")
+        click_row(page, row, place)
         expect(f"what row {row} marks", shown.text(".graph > .status"), f"{marked} of the thread's busy time")
         expect(f"the focus after row {row}", page.run("return document.activeElement === arguments[0]", page.element(f"{shown.section} .view")), True)
     page.choose("thread", "all threads")
@@ -94,8 +93,7 @@ def check_details_by_thread(page):
            [*LONG_READ[:2], "20", "33.3 %", "20", "1", "2"], ["Read", RIGHT, "15", "25.0 %", "15", "1", "2"]])
     page.choose("thread", "all threads")
     expect("the share of a row of a thread", page.rows("#names")[0], ["Source", "a.h", "30", "31.9 %", "40", "1", "1"])
-    page.run("scrollTo(0, 0)")
-    page.click("#names tbody tr:nth-child(2) button")
+    click_row(page, 2)
     expect("what a row of a thread marks", Graph(page, 1).text(".graph > .status"), "1 frame marked, 25 \u00b5s, 41.7 % of the thread's busy time")
 
 
@@ -104,7 +102,7 @@ def try_details(driver, program, folder):
     page = Page(driver, program, ["--group-by", "name,args.detail", "detailed.json"], folder=folder)
     for check in [check_details_table, check_details_graph, check_odd_elements]:
         check(page)
-    check_narrow(page, len(DETAILS_BY_SELF))
+    check_narrow(page, FIRST_ROWS + 2)  # of spans, and a caller and a callee
     page.expect_silence()
     page = Page(driver, program, ["--group-by", "tid,name,args.detail", "detailed.json"], folder=folder)
     check_details_by_thread(page)

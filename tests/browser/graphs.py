@@ -1,6 +1,7 @@
 """Flame graphs: widths and order of frames, what is said at the pointer, zooming by clicks, and marks."""
 from pages import Graph, expect
 from typed import IN_BETA, IN_GAMMA, WHOLE, typed_page
+from views import click_row
 
 
 def check_graph(page):
@@ -62,8 +63,7 @@ def check_marks_in_zoom(page):
         (4, "gamma", IN_BETA, "2 frames marked, together 30 \u00b5s, 25.0 %"),
         (8, "aside", WHOLE, "1 frame marked, 5 \u00b5s, 4.2 %"),
     ]:
-        page.run("scrollTo(0, 0)")
-        page.click(f"#names tbody tr:nth-child({row}) button")
+        click_row(page, row)
         graph.expect(f"the graph after a click on {name}", 120, levels)
         said = f"{marked} of the thread's busy time{outside if name == 'gamma' else ''}"
         expect(f"what is said of {name}", graph.text(".graph > .status"), said)
@@ -71,8 +71,8 @@ def check_marks_in_zoom(page):
     graph.click(".steps button:nth-child(1)")
     graph.expect("the graph before it was left", 120, IN_BETA)
     graph.click(".steps button:nth-child(2)")
-    page.run("scrollTo(0, 0)")
-    page.click("#names tbody tr:nth-child(11) button")
+    page.rows("#names")
+    click_row(page, 11)
     names = [[name for name, *_ in level] for level in Graph(page, 2).boxes()]
     expect("the graph after a click on what is narrower than a pixel", names, [["thread 1"], ["far"], ["near"]])
 

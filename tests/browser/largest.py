@@ -60,11 +60,11 @@ def try_largest(driver, program, folder):
     page = Page(driver, program, [path])
     ready = ready_of(page, "the page of the largest trace")
     said = page.text("#names .status")
-    wanted = f"20 of {trace.names:,} rows shown; sum of self {trace.self_time:,} \u00b5s"
+    wanted = f"10 of {trace.names:,} rows shown; sum of self {trace.self_time:,} \u00b5s"
     if not said.startswith(wanted) or not said.endswith(f"; sum of count {trace.spans:,}"):
         fail(f"{said!r} of the largest trace, and not {wanted!r} and {trace.spans:,}")
     page.click("#names .table > button")
-    expect("rows after more are asked for", len(page.rows("#names")), 220)
+    expect("rows after more are asked for", len(page.shown_rows("#names")), 210)
     slowest = max([
         time_of(page, "sorting by name", "document.querySelector('#names th:nth-child(1) button').click()"),
         time_of(page, "searching", "words.value = 'step 33'; words.dispatchEvent(new Event('input'))"),
@@ -74,6 +74,7 @@ def try_largest(driver, program, folder):
     requests = {name: int(total) for name, _, _, total in graph.boxes()[1]}
     expect("requests of the first thread", requests, dict(trace.requests))
     slowest = max(slowest, time_of(page, "zooming", f"document.querySelector('{graph.section} .under button.name').click()"))
+    slowest = max(slowest, time_of(page, "clicking on a row", "document.querySelector('#names tbody button').click()"))
     if page.run("return document.querySelectorAll('*').length") > 5_000:
         fail("the page of the largest trace has more elements than a person can look through")
     page.expect_silence()

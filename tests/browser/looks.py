@@ -1,7 +1,7 @@
 """How a page looks: light and dark, on a phone, on a tablet and in print."""
 from pages import LEVEL, Graph, expect, fail
-from typed import BY_SELF, typed_page
-from views import check_narrow, others
+from typed import typed_page
+from views import FIRST_ROWS, check_narrow, others
 
 
 def luminance(color):
@@ -39,5 +39,5 @@ def try_looks(driver, program, folder):
     Graph(page, 0).click(".under > summary")
     Graph(page, 1)
     Graph(page, 2)
-    check_narrow(page, len(BY_SELF) + len(tables) + 2)  # of names, of what else was traced, and of what lies directly under a thread
+    check_narrow(page, FIRST_ROWS + len(tables) + 2)  # of names, of what else was traced, and of what lies directly under a thread
     page.expect_silence()

@@ -36,6 +36,10 @@ def try_left_out(driver, program, folder):
     line = page.text("#graphs > p")
     if not line.endswith("thread 1 of process 1, left out: too many frames"):
         fail(f"{line!r} in the place of a graph that is left out")
+    page.click("#names tbody tr:nth-child(3)")
+    expect("calls of what is left out", (page.text("#calls-notes"), page.run("return document.getElementById('calls-lists').checkVisibility()")),
+           ("The stacks of thread 1 are left out of the page, and so of these times.", False))
+    page.click("#calls-close")
     expect("names in a graph beside it", [box[0] for box in Graph(page, 1).boxes()[1]], ["small"])
     page.expect_silence()
 

@@ -16,8 +16,9 @@ def check_odd_names(page):
         expect(f"what is said of {name[:20]}", (line, page.run("return arguments[0].title", page.element(f"{graph.section} .told bdi"))), (name, name))
     direction = "const style = getComputedStyle(arguments[0]); return [style.unicodeBidi, arguments[0].matches(':dir(rtl)')]"
     expect("the direction of a name from right to left", page.run(direction, page.element(f"{graph.section} .told bdi")), ["isolate", True])
+    wanted = [LONG if row[0] == BRIEF else row[0] for row in page.rows("#names")]
     titles = "return [...document.querySelectorAll('#names td.name bdi')].map(name => name.title)"
-    expect("the whole names as titles", page.run(titles), [LONG if row[0] == BRIEF else row[0] for row in page.rows("#names")])
+    expect("the whole names as titles", page.run(titles), wanted)
     check_odd_elements(page)
 
 

@@ -1,7 +1,7 @@
 """Pages whose tables have a list of numbers of their own: what is shown of these, in which order, and what such a page does without."""
 from pages import Graph, Page, expect, fail
 from typed import BY_SELF, TYPED
-from views import check_narrow, check_odd_elements, order_of, put_traces, span
+from views import FIRST_ROWS, check_narrow, check_odd_elements, order_of, put_traces, span
 
 US = "\u00b5s"
 # On the first thread an `f` holds another one, and that one a `g`; on the second one `h` stands before some `g`.
@@ -128,7 +128,7 @@ def try_greatest(driver, program, folder):
     page.expect_silence()
     page = Page(driver, program, ["--numbers", "longest,outer,total", "typed.json"], folder=folder)
     Graph(page, 0)
-    check_narrow(page, len(BY_SELF))
+    check_narrow(page, FIRST_ROWS)
     page.expect_silence()
 
 

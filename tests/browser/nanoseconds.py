@@ -4,7 +4,7 @@ from pages import Graph, Keys, Page, expect
 from views import check_narrow, check_odd_elements, named, order_of, others, put_traces, refusals, span
 
 US = "\u00b5s"
-HINT = " A click on a column sorts; a click on a row marks its frames in a flame graph. The address shows the view again."
+HINT = " A click on a column sorts; a click on a row shows its callers and callees, and its frames in a flame graph. The address shows the view again."
 MOST = 4_611_686_018_427_387  # microseconds, the most whole ones that an event can have
 FAR = 9_007_199_254_741  # microseconds; no double holds all nanoseconds of two such times
 
@@ -86,7 +86,7 @@ def check_other_tables(page):
     expect("the other tables", others(page), {
         "Async spans (1)": [["load", "30,250", "1", "0", "0", "net", '""', "5"]],
         "Flows (1)": [["hop", "4,750", "1", "0", '""', "x (process 7)"]],
-        "Counters (1)": [["heap", "used", "1", "12", "12", "12", "app (7)", "-"]],
+        "Counters (1)": [["heap", "used", "1", "12", "12", "12", "app (7)"]],
         "Instants (1)": [["paint", "1", "app (7)", "main (1)", "process"]],
     })
     expect("titles of async spans", page.titles("#others > details:nth-child(1)")[:3], ["name", "total, ns", "closed"])

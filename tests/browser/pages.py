@@ -6,6 +6,7 @@ import tempfile
 
 from selenium import webdriver
 from selenium.webdriver.common.action_chains import ActionChains
+from selenium.webdriver.common.actions.wheel_input import ScrollOrigin
 from selenium.webdriver.common.by import By
 from selenium.webdriver.common.keys import Keys
 from selenium.webdriver.support.ui import Select, WebDriverWait
@@ -22,6 +23,19 @@ COLORS = """
     const ink = copy.getContext("2d", { willReadFrequently: true });
     ink.drawImage(canvas, 0, 0);
     return points.map(([x, y]) => [...ink.getImageData(x, y, 1, 1).data]);
+"""
+
+
+SHOW_ALL = """
+    const focused = document.activeElement;
+    const hasMore = (more) => !more.hidden;
+    for (const more of document.querySelectorAll(`${arguments[0]} .table > .more`)) while (hasMore(more)) more.click();
+    focused.focus({ preventScroll: true });
+"""
+INTO_VIEW = """
+    const [canvas, below] = arguments;
+    const at = canvas.getBoundingClientRect().top + below;
+    if (at < 0 || at > innerHeight) canvas.scrollIntoView({ block: "center" });
 """
 
 
@@ -103,9 +117,14 @@ class Page:
         for key in keys:
             ActionChains(self.driver).send_keys(key).perform()
 
-    def rows(self, table):
+    def shown_rows(self, table):
         script = "return [...document.querySelectorAll(arguments[0] + ' tbody tr')].map(r => [...r.cells].map(c => c.innerText.trim()))"
         return self.run(script, table)
+
+    def rows(self, table):
+        """All rows that it is narrowed to, also those that aren't shown at first; the focus stays."""
+        self.run(SHOW_ALL, table)
+        return self.shown_rows(table)
 
     def titles(self, table):
         return self.run("return [...document.querySelectorAll(arguments[0] + ' th')].map(head => head.innerText.trim())", table)
@@ -178,6 +197,7 @@ class Graph:
 
     def pointer(self, x, level):
         """The pointer moved to a part of the width of a level."""
+        self.page.run(INTO_VIEW, self.canvas, LEVEL * (level + 0.5))
         size = self.canvas.size
         x, y = x * size["width"] - size["width"] / 2, LEVEL * (level + 0.5) - size["height"] / 2
         return ActionChains(self.page.driver).move_to_element_with_offset(self.canvas, int(x), int(y))

@@ -1,7 +1,7 @@
 """Pages whose tables have columns of parents: words find rows by these too, and graphs go by the labels of frames as ever."""
 from details import detailed
 from pages import Graph, Page, expect
-from views import check_odd_elements, put_traces, span
+from views import check_odd_elements, click_row, put_traces, span
 
 # On the first thread `Front` holds a `Source` within which another one stands, and `Parse`; on the second one `Back` holds two spans.
 HELD = [
@@ -25,11 +25,6 @@ OF_BUSY = "of the thread's busy time"
 
 def marked(page, place):
     return Graph(page, place).text(".graph > .status")
-
-
-def click_row(page, row):
-    page.run("scrollTo(0, 0)")
-    page.click(f"#names tbody tr:nth-child({row}) button")
 
 
 def expect_found(page, words, rows, threads):

@@ -1,6 +1,6 @@
 """The frame that keys or the pointer lead to: which it is, and where what is said of it stands."""
-from pages import LEVEL, Graph, Keys, expect, fail
-from typed import IN_BETA, IN_GAMMA, WHOLE, typed_page
+from pages import LEVEL, ActionChains, Graph, Keys, ScrollOrigin, expect, fail
+from typed import IN_BETA, IN_GAMMA, TOP, WHOLE, typed_page
 
 
 def check_way(page):
@@ -101,8 +101,91 @@ def check_told(page):
         check_beside_focus(graph)
 
 
+def turn(graph, x, level, pixels, *keys):
+    """The wheel turned at a part of the width of a level, while keys are held."""
+    page, size = graph.page, graph.canvas.size
+    graph.pointer(x, level).perform()
+    at = ScrollOrigin.from_element(graph.canvas, int(x * size["width"] - size["width"] / 2), int(LEVEL * (level + 0.5) - size["height"] / 2))
+    steps = ActionChains(page.driver)
+    for key in keys:
+        steps.key_down(key)
+    steps.scroll_from_origin(at, 0, pixels)
+    for key in keys:
+        steps.key_up(key)
+    steps.perform()
+    page.wait()
+
+
+def expect_part(graph, what, start, length, levels):
+    """These levels, by names with where they begin and how long they are, are what is drawn of so much of the thread's time."""
+    scale = graph.width() / length
+    seen = [[(name, round(start + x / scale), round(width / scale)) for name, x, width, _ in level] for level in graph.boxes()]
+    expect(what, seen, levels)
+
+
+def check_wheel(page):
+    """The wheel with Ctrl shows frames wider or narrower where the pointer is, and no others; what leaves a zoom leaves this too."""
+    graph = Graph(page, 0)
+    turn(graph, 0.75, 1, -120, Keys.CONTROL)
+    right_half = [[TOP], [("alpha", 0, 100), ("gamma", 100, 20)], [("beta", 0, 50), ("aside", 50, 5)]]
+    expect_part(graph, "frames twice as wide", 45, 60, right_half)
+    turn(graph, 0.99, 1, -240, Keys.CONTROL)
+    expect_part(graph, "frames eight times as wide", 89.55, 15, [[TOP], [("alpha", 0, 100), ("gamma", 100, 20)]])
+    kept = """
+        const turn = new WheelEvent("wheel", { ctrlKey: arguments[1], deltaY: 120, cancelable: true });
+        arguments[0].dispatchEvent(turn);
+        return turn.defaultPrevented;
+    """
+    expect("whether the browser is kept from making all greater", [page.run(kept, graph.canvas, has_key) for has_key in (True, False)], [True, False])
+    graph.pointer(0.99, 1).perform()
+    expect("what is said at the pointer", graph.text(".tip").split("\n")[0], "gamma")
+    turn(graph, 0.99, 1, 1200, Keys.CONTROL)
+    graph.expect("the graph turned back", 120, WHOLE)
+    for what, leave in [("0", lambda: page.press("0")), ("0 elsewhere", lambda: (page.click("h1"), page.press("0"))),
+                        ("Escape", lambda: (page.run("arguments[0].focus()", page.element(f"{graph.section} .view")), page.press(Keys.ESCAPE))),
+                        ("a button", lambda: graph.click(".steps button:nth-child(2)"))]:
+        turn(graph, 0.5, 1, -120, Keys.CONTROL)
+        expect(f"frames before {what}", round(graph.boxes()[0][0][2] / graph.width(), 2), 2)
+        leave()
+        graph.expect(f"the graph after {what}", 120, WHOLE)
+    place = page.run("return scrollY")
+    turn(graph, 0.5, 1, 120)
+    graph.expect("the graph after the wheel alone", 120, WHOLE)
+    expect("whether the wheel alone scrolls", page.run("return scrollY") > place, True)
+
+
+def check_keys_of_page(page):
+    """`/` leads to the words, and 0 leaves the zooms; where a person writes or chooses these are letters."""
+    graph = Graph(page, 0)
+    graph.pointer(0.2, 2).click().perform()
+    graph.expect("the graph of beta", 120, IN_BETA)
+    page.click("h1")
+    page.press("/")
+    expect("the focus after a stroke", page.run("return document.activeElement.id"), "words")
+    page.press("0", "/")
+    expect("what was written", page.run("return words.value"), "0/")
+    page.write("")
+    graph.expect("the graph after 0 among the words", 120, IN_BETA)
+    page.run("document.activeElement.blur()")
+    page.press("0")
+    graph.expect("the graph after 0", 120, WHOLE)
+    expect("the address after 0", page.fragment(), "")
+    graph.click(".steps button:nth-child(1)")
+    graph.expect("the graph after going back from 0", 120, IN_BETA)
+    page.run("arguments[0].focus()", page.element(f"{graph.section} .view"))
+    page.press("0")
+    graph.expect("the graph after 0 in it", 120, WHOLE)
+    page.run("arguments[0].focus()", page.element("#order"))
+    page.press("/")
+    expect("the focus after a stroke in a choice", page.run("return document.activeElement.id"), "order")
+
+
 def try_pointer_and_keys(driver, program, folder):
     page = typed_page(driver, program, folder)
     for check in [check_way, check_keys, check_told]:
+        check(page)
+    page.expect_silence()
+    page.open()
+    for check in [check_wheel, check_keys_of_page]:
         check(page)
     page.expect_silence()

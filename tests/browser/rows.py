@@ -62,7 +62,7 @@ def check_other_tables(page):
     expect("the other tables", others(page), {
         "Async spans (1)": [["load", "30", "1", "0", "0", "net<", '""', "5"]],
         "Flows (1)": [["hop", "5", "1", "0", '""', "x (process 7)"]],
-        "Counters (1)": [["heap", "used", "2", "-9,007,199,254,740,991", "12", "12", "app (7)", "-"]],
+        "Counters (1)": [["heap", "used", "2", "-9,007,199,254,740,991", "12", "12", "app (7)"]],
         "Instants (1)": [["paint", "1", "app (7)", "main (1)", "process"]],
     })
 

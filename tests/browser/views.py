@@ -6,6 +6,7 @@ from pages import DRAWN, Keys, expect, fail
 
 READY = 5_000  # milliseconds in which the page of the largest trace must be ready
 QUICK = 3_000  # milliseconds in which it must have done what a person asks
+FIRST_ROWS = 10  # of a table, as it is at first
 MARKUP = "</script><img src=x onerror=alert(1)>"
 TURNED = "a\u202eb\u2028c\n"
 TURNED_SHOWN = "a\\u202eb\\u2028c\\u000a"
@@ -40,7 +41,16 @@ def others(page):
 
 def refusals(page):
     """What is said of each kind of refused elements, and of the first of them."""
+    page.run("document.querySelectorAll('#warnings details').forEach(one => { one.open = true; })")
     return page.run("return [...document.querySelectorAll('#warnings li')].map(item => item.innerText)")
+
+
+def click_row(page, number, place="button"):
+    """Clicks on a row of spans with no panel above it; one is open behind it."""
+    if page.element("#calls").is_displayed():
+        page.click("#calls-close")
+    page.run("scrollTo(0, 0)")
+    page.click(f"#names tbody tr:nth-child({number}) {place}")
 
 
 def check_odd_elements(page):

@@ -37,6 +37,7 @@ SAME = {
     "a condition on an unknown column": ["--json", "--where", "size=1", "3.json"],
     "merged templates twice": ["--merge-templates", "--json", "--merge-templates", "3.json"],
     "how files are read": ["--limit", "90", "--nanoseconds", "--seal", "--strict", "--json", "3.json", "7.json"],
+    "large files": ["--large", "--json", "3.json", "7.json", "cut.json"],
     "a limit that is reached": ["--json", "--limit=2", "3.json", "7.json"],
     "another sum": ["--top", "3", "--by", "total", "3.json", "7.json"],
     "numbers": ["--numbers", "longest,outer,count", "--group-by", "name", "3.json", "7.json"],
