@@ -42,7 +42,7 @@ check:
 
 # Times the reading of traces beside that of other readers, the division of a thread's time, a report beside its reading, names
 # that were chosen to collide beside ordinary ones, traces in which each event is new, folded stacks and tables beside reports, tables
-# that are added, repeated runs beside their sums, and whole runs over many threads and over several files.
+# that are added, repeated runs beside their sums, whole runs over many threads and over several files, and large files.
 bench: tracebook
 	cd crates/bench_reading && rt run < stdin
 	cd crates/bench_tracking && rt run < stdin
@@ -57,6 +57,7 @@ bench: tracebook
 	bench/repeats
 	bench/many_threads
 	bench/several_files
+	bench/large
 
 install: $(PROGRAM)
 	install -d $(BIN) $(SHARED) $(MANUALS) $(COMPLETIONS)
