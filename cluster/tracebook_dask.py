@@ -35,12 +35,12 @@ PROGRAM = "tracebook"
 # The options of the program that have a value, and this command's own, with what their values are called.
 VALUED = {"--limit", "--top", "--by", "--numbers", "--of", "--base", "--jobs", "--group-by", "--where", "--only", "--skip", "--files-from"}
 OWN = {"--scheduler": "<ADDRESS>", "--workers": "<N>", "--parts": "<FOLDER>"}
-LIST, WHERE, FOLDED = "--files-from", "--where", "--folded"
+LIST, WHERE, FOLDED, LARGE = "--files-from", "--where", "--folded", "--large"
 # Those that tables follow from, and those that only the text follows from.
-OF_TABLES = ("--of", WHERE, "--merge-templates", "--limit", "--nanoseconds", "--seal", "--strict")
+OF_TABLES = ("--of", WHERE, "--merge-templates", LARGE, "--limit", "--nanoseconds", "--seal", "--strict")
 OF_TEXT = ("--json", "--top", "--by", "--numbers", "--only", "--skip")
-# What is a FILE's own, and the file that standard input is kept in, with one byte more than a trace may have.
-STANDARD_INPUT, GIVEN, MOST_GIVEN = "-", "given", (64 << 20) + 1
+# What is a FILE's own, and the file that standard input is kept in, with one byte more than a trace may have, or a large one.
+STANDARD_INPUT, GIVEN, MOST_GIVEN, MOST_LARGE = "-", "given", (64 << 20) + 1, 1 << 32
 # How the names of traces end that stand for the folder that they are in.
 ENDING = b".json"
 # A condition on the column `file`, and one that no file meets, since none has an empty name.
@@ -433,7 +433,7 @@ def keep_given(work):
     path = os.path.join(work.room, GIVEN)
     try:
         with open(0, "rb", closefd=False) as given:
-            data = given.read(MOST_GIVEN)
+            data = given.read(MOST_LARGE if LARGE in work.flags else MOST_GIVEN)
     except OSError:
         return None  # The program will say so.
     with open(path, "xb") as kept:
