@@ -4,6 +4,7 @@ pub mod Document
 pub mod Element
 pub mod Ending
 pub mod Fields
+pub mod Parts
 pub mod Phase
 pub mod ReadError
 pub mod Refusal
