@@ -1,14 +1,16 @@
 pub mod ArgMaps
+pub mod Behind
 pub mod Bracket
+pub mod Collected
 pub mod Decimals
 pub mod Documents
-pub mod Elements
 pub mod Ends
 pub mod FloatBits
 pub mod Good
 pub mod Grammar
 pub mod LastByte
 pub mod Leaves
+pub mod Middles
 pub mod NameOrder
 pub mod Slots
 pub mod Times

@@ -1,7 +1,9 @@
 pub mod ArgMap
 pub mod Decimals
+pub mod Divided
 pub mod Document
 pub mod Element
+pub mod Elements
 pub mod Ending
 pub mod Fields
 pub mod Parts

@@ -1,12 +1,16 @@
 -- Parts of a text that are read side by side; for private clauses.
-use Rattle.std.specs.Prelude.{⊤, ℕ, ◌==◌, List, [], ◌∷◌, Bool, false, if◌then◌else◌}
-use Rattle.json.specs.Token.{Token}
-use Rattle.span_read.specs.Document.{is_blank}
+use Rattle.std.specs.Prelude.{◌≡◌, ⊤, ℕ, ◌==◌, List, [], ◌∷◌, ◌++◌, map, Bool, true, false, if◌then◌else◌}
+use Rattle.json.specs.{Lex.tokens, Token.Token}
+use Rattle.span_read.specs.{Item, Unit, Document.is_blank, Element.item_of_data, Tokens.ItemsSoFar}
 
 -- the first byte that is no blank is an opening brace
 abbrev pub opens_object : List ℕ → Bool
 opens_object [] = false
 opens_object (b ∷ text) = if is_blank b then opens_object text else b == 123
+
+-- a comma stands between these two texts, behind a closing brace and before an opening one
+abbrev pub IsCut : List ℕ → List ℕ → List ℕ → Type 0
+IsCut text front rest = (before : List ℕ) × (front ≡ before ++ 125 ∷ []) × (text ≡ front ++ 44 ∷ rest) × (opens_object rest ≡ true)
 
 -- none of the tokens is a fault
 abbrev pub AreGood : List Token → Type 0
@@ -21,3 +25,8 @@ AreGood (Token.number s ∷ ts) = AreGood ts
 AreGood (Token.boolean b ∷ ts) = AreGood ts
 AreGood (Token.null ∷ ts) = AreGood ts
 AreGood (Token.bad ∷ ts) = ⊥
+
+-- a text is elements of an array, which stand at this depth and are these items, whatever comes behind it
+pub record AreElements (unit : Unit) (depth : ℕ) (text : List ℕ) (items : List Item) : Type 0 where
+  pub good : AreGood (tokens text)
+  pub read : (behind : List Token) → ItemsSoFar depth (tokens text ++ behind) behind (λ ds. map (item_of_data unit) ds ≡ items)

@@ -2,9 +2,9 @@
 use Rattle.std.specs.Prelude.{◌≡◌, ℕ, ◌≤◌, List, [], ◌∷◌, length, Bool, true, false, Option, Some, None, option_and_then, Result, Err}
 use Rattle.json.specs.{Json.{value, items, members, parse_map, if_last}, Token.Token}
 use Rattle.serde_json.specs.{Data.{Data, array, object, Items, item, Members, no_members}, Read.{of_json, of_items, of_members, converted}}
-use Rattle.span_read.specs.{Ending.with_bracket, Fields.field_value, declared.{document.End.End, error.stop.Stop.{Stop, TheVariants.NotJson}, fields.FieldValue.FieldValue, tokens.{beginning.Beginning.{Beginning, TheVariants.{Object, Array, Words, Whole, Float, Flag, Nil, Other}}, number.Number.Number}}}
+use Rattle.span_read.specs.{Ending.with_bracket, Fields.field_value, declared.{elements.End.End, error.stop.Stop.{Stop, TheVariants.NotJson}, fields.FieldValue.FieldValue, tokens.{beginning.Beginning.{Beginning, TheVariants.{Object, Array, Words, Whole, Float, Flag, Nil, Other}}, number.Number.Number}}}
 use Rattle.span_event.specs.declared.args.ArgValue.TheVariants as arg
-use Rattle.span_read.specs.declared.document.End.TheVariants as end
+use Rattle.span_read.specs.declared.elements.End.TheVariants as end
 use Rattle.span_read.specs.declared.tokens.number.Number.TheVariants as number
 use Rattle.span_read.specs.declared.fields.FieldValue.TheVariants as field
 

@@ -1,15 +1,16 @@
 //! The texts that are tried in turn: the text itself, and of an array also the text cut at its end, and closed.
-ghost use Rattle.std.specs.Prelude.{◌≡◌, ◌≢◌, ◌∷◌, ◌++◌, [], Err, if◌then◌else◌};
+ghost use Rattle.std.specs.Prelude.{◌≡◌, ◌≢◌, ◌∷◌, ◌++◌, [], None, Err, IfOk, if◌then◌else◌};
 ghost use Rattle.serde_json.specs.Read.{read};
-ghost use Rattle.span_read.specs.{Document.{is_blank, opens_array, without_trailing_blanks, without_trailing_comma, cut_text, candidates, first_read, doc_of_document}, Ending.closes_array, declared.error.ReadError.TheVariants.Memory};
+ghost use Rattle.span_read.specs.{Document.{is_blank, opens_array, without_trailing_blanks, without_trailing_comma, cut_text, candidates, first_read, doc_of_document}, Ending.{closes_array, ended}, Tokens.{data_of_all, IsNotJson}, declared.error.ReadError.TheVariants.Memory};
 
+use crate::divided::Divided;
 use crate::document::read_all;
+use crate::elements::Found;
 use crate::error::ReadError;
 use crate::error::stop::Stop;
 use crate::format::Format;
-use crate::recent::RecentTexts;
 use crate::tokens::Tokens;
-use json::{Reader, Scratch};
+use json::Scratch;
 use span_event::Items;
 use std::alloc::Global;
 
@@ -55,23 +56,27 @@ fn read_text(alloc: Global, format: Format, text: &str, bracket: bool) -> Result
         → result ≡ doc_of_document format (read (if bracket then text.now ++ 93 ∷ [] else text.now)) }
 {
     let mut scratch = Scratch::new(alloc);
-    let Ok(reader) = Reader::new(text, &mut scratch) else {
+    let Ok(tokens) = Tokens::of(alloc, text, &mut scratch) else {
         return Err(ReadError::Memory);
     };
-    let Ok(recent) = RecentTexts::new(alloc) else {
-        return Err(ReadError::Memory);
-    };
-    let mut tokens = Tokens {
-        reader,
-        alloc,
-        recent,
-        pairs: Vec::new(alloc),
-    };
-    match read_all(&mut tokens, format, MAX_DEPTH, bracket) {
+    match read_tokens(tokens, format, bracket) {
         Ok(found) => found,
         Err(Stop::NotJson) => Err(ReadError::NotJson),
         Err(Stop::Memory) => Err(ReadError::Memory),
     }
+}
+
+/// Reads the document that all the tokens are, or that they are with a closing bracket behind them.
+fn read_tokens(tokens: Tokens<'_>, format: Format, bracket: bool) -> Result<Found, Stop>
+    ensures found { IfOk result (λ found.
+        found ≡ doc_of_document format (data_of_all 127 (ended bracket tokens.reader))) }
+    ensures refused { IsNotJson result → data_of_all 127 (ended bracket tokens.reader) ≡ None }
+{
+    let mut text = Divided {
+        tokens,
+        middle: None,
+    };
+    read_all(&mut text, format, MAX_DEPTH, bracket)
 }
 
 fn is_blank(byte: u8) -> bool

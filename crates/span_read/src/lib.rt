@@ -3,8 +3,10 @@
 
 mod arg_map;
 mod candidates;
+mod divided;
 mod document;
 mod element;
+mod elements;
 mod error;
 mod fields;
 mod file;

@@ -4,8 +4,8 @@ use Rattle.std.proofs.Common.{◌≡◌, ℕ, ◌-◌, ◌<◌, List, [], ◌∷
 use Rattle.json.specs.{Json.{Json, after_end_array, value}, Reads.token_of, Token.{Token, begin_array, end_array}, declared.token.Token.Token as ReadToken}
 use Rattle.serde_json.specs.{Data.{Data, Items, no_items}, Read.{of_json, converted}}
 use Rattle.json.proofs.Grammar.{left}
-use Rattle.span_read.specs.{Ending.{with_bracket, ended}, Tokens.{data_at, TakesValue, TakesElements, items_before, ItemsSoFar}, declared.document.End.TheVariants.{Bracket, Text}}
-use Rattle.span_read.proofs.{Bracket.Values.{IsClosed, IsClosed-value, after_end_array-bracket}, Grammar.{converted_some, refused, data_at-nothing}, Turns.{items_start, items_turn, items_refused, items_finish}}
+use Rattle.span_read.specs.{Ending.{with_bracket, ended}, Elements.{ReadsSoFar, TakesUpTo}, Tokens.{data_at, TakesValue, TakesElements, items_before, ItemsSoFar}, declared.elements.End.{End, TheVariants.{Bracket, Text}}}
+use Rattle.span_read.proofs.{Behind.data_at-behind, Bracket.Values.{IsClosed, IsClosed-value, after_end_array-bracket}, Grammar.{converted_some, refused, data_at-nothing}, Turns.{items_start, items_turn, items_refused, items_finish}}
 use Rattle.json.specs.declared.token.Token.TheVariants as read
 
 value_closed : (o closed : Option (Json × List Token)) (j : Json) (r : List Token) → IsClosed o closed → o ≡ Some (j, r) → closed ≡ Some (j, with_bracket r)
@@ -48,12 +48,8 @@ ended_other : (b : Bool) (t : ReadToken) (ts : List Token) → (t ≡ read.EndAr
 ended_other true t ts other = after_end_array-bracket (token_of t) ts ∙ ap (option_map with_bracket) (after_other t ts other)
 ended_other false t ts other = after_other t ts other
 
--- of the items from `start` on some with P were taken, and `left` is left, with and without the bracket
-abbrev pub EndedSoFar : ℕ → List Token → List Token → (List Data → Type 0) → Type 0
-EndedSoFar depth start left P = (b : Bool) → ItemsSoFar depth (ended b start) (ended b left) P
-
-pub ended_start : (depth : ℕ) (start : List Token) (P : List Data → Type 0) → P [] → EndedSoFar depth start start P
-ended_start depth start P holds = λ b. items_start depth (ended b start) P holds
+pub ended_start : (depth : ℕ) (start : List Token) (P : List Data → Type 0) → P [] → ReadsSoFar depth start start P
+ended_start depth start P holds = record { so_far = λ b. items_start depth (ended b start) P holds; behind = λ more. items_start depth (start ++ more) P holds }
 
 module _ (depth : ℕ) (some : 0 < depth) (start : List Token) where
   -- nothing is left, so no bracket closes the array
@@ -68,29 +64,43 @@ module _ (depth : ℕ) (some : 0 < depth) (start : List Token) where
       let turned : ItemsSoFar (depth - 1) start p.1 (λ ds. ⊤) = items_turn depth some P start ts s (λ ds. ⊤) ts p.1 (goes, refl) (p.0, e, tt) in
       cut_off (λ ds. ⊤) (subst (λ r. ItemsSoFar (depth - 1) start r (λ ds. ⊤)) (left p.0 p.1 refl) turned)
 
-module _ (depth : ℕ) (some : 0 < depth) (P : List Data → Type 0) (start ts : List Token) (s : EndedSoFar (depth - 1) start ts P) where
+module _ (depth : ℕ) (some : 0 < depth) (P : List Data → Type 0) (start ts : List Token) (s : ReadsSoFar (depth - 1) start ts P) where
   -- at a token that is no closing bracket an element is read, or refused
   module _ (t : ReadToken) (rest : List Token) (is : ts ≡ token_of t ∷ rest) (other : t ≡ read.EndArray → ⊥) where
     goes_on : (b : Bool) → after_end_array (ended b ts) ≡ None
     goes_on b = rw is (ended_other b t rest other)
 
-    pub ended_turn : (Q : List Data → Type 0) (r : List Token) → ((b : Bool) → TakesValue (depth - 1) (token_of t ∷ rest) r (λ d. Q ((s b).before ++ d ∷ []))) → EndedSoFar (depth - 1) start r Q
-    ended_turn Q r taken = λ b.
-        items_turn depth some P (ended b start) (ended b ts) (s b) Q (ended b ts) (ended b r) (goes_on b, refl) (rw is (ended_value b (depth - 1) (token_of t ∷ rest) r _ (taken b)))
+    goes_on_behind : (more : List Token) → after_end_array (ts ++ more) ≡ None
+    goes_on_behind more = rw is (after_other t (rest ++ more) other)
+
+    pub ended_turn : (Q : List Data → Type 0) (r : List Token) → TakesValue (depth - 1) (token_of t ∷ rest) r (λ d. (ds : List Data) → P ds → Q (ds ++ d ∷ [])) → ReadsSoFar (depth - 1) start r Q
+    ended_turn Q r taken = record {
+      so_far = λ b.
+          let value = ended_value b (depth - 1) (token_of t ∷ rest) r (λ d. Q ((s.so_far b).before ++ d ∷ [])) (taken.0, taken.1, taken.2 _ (s.so_far b).holds) in
+          items_turn depth some P (ended b start) (ended b ts) (s.so_far b) Q (ended b ts) (ended b r) (goes_on b, refl) (rw is value);
+      behind = λ more.
+          let value : TakesValue (depth - 1) (token_of t ∷ (rest ++ more)) (r ++ more) (λ d. Q ((s.behind more).before ++ d ∷ [])) = (taken.0, data_at-behind more (depth - 1) (token_of t ∷ rest) r taken.0 taken.1, taken.2 _ (s.behind more).holds) in
+          items_turn depth some P (start ++ more) (ts ++ more) (s.behind more) Q (ts ++ more) (r ++ more) (goes_on_behind more, refl) (rw is value);
+    }
 
     pub ended_refused : data_at (depth - 1) (token_of t ∷ rest) ≡ None → (b : Bool) → data_at depth (begin_array ∷ ended b start) ≡ None
-    ended_refused none false = items_refused depth some P start ts (s false) ts (goes_on false, refl) (rw is none)
+    ended_refused none false = items_refused depth some P start ts (s.so_far false) ts (goes_on false, refl) (rw is none)
     ended_refused none true =
         let here : data_at (depth - 1) ts ≡ None = rw is none in
-        last_refused depth some (with_bracket start) P (with_bracket ts) _ (goes_on true) (s true) refl (λ d r e. nothing_left _ _ d r (IsClosed-value (depth - 1) ts) here e)
+        last_refused depth some (with_bracket start) P (with_bracket ts) _ (goes_on true) (s.so_far true) refl (λ d r e. nothing_left _ _ d r (IsClosed-value (depth - 1) ts) here e)
 
   -- at the array's own bracket, and at the end of the text
-  pub ended_bracket : (Q : Items → Type 0) (r : List Token) → ts ≡ end_array ∷ r → Q (items_before (s false).before no_items) → TakesElements Bracket depth start r Q
-  ended_bracket Q r is holds = items_finish depth some P start ts (s false) Q r (rw is refl) holds
+  pub ended_bracket : (r : List Token) → ts ≡ end_array ∷ r → TakesUpTo Bracket (depth - 1) start r P
+  ended_bracket r is = subst (λ us. ItemsSoFar (depth - 1) start us P) is (s.so_far false)
 
-  pub ended_text : (Q : Items → Type 0) (r : List Token) → ts ≡ [] → r ≡ [] → Q (items_before (s true).before no_items) → TakesElements Text depth start r Q
-  ended_text Q r is left holds = (
-    left,
-    cut_off depth some start P (subst (λ us. ItemsSoFar (depth - 1) start us P) is (s false)),
-    items_finish depth some P (with_bracket start) (with_bracket ts) (s true) Q [] (rw is refl) holds,
-  )
+  pub ended_text : (r : List Token) → ts ≡ [] → r ≡ [] → TakesUpTo Text (depth - 1) start r P
+  ended_text r is left = (left, subst (λ us. ReadsSoFar (depth - 1) start us P) is s)
+
+-- what was taken of an array up to its bracket, or the end of the text, is what the array has
+pub TakesElements-up_to : (end : End) (depth : ℕ) (some : 0 < depth) (old new : List Token) (P : List Data → Type 0) (Q : Items → Type 0) → ((ds : List Data) → P ds → Q (items_before ds no_items)) → TakesUpTo end (depth - 1) old new P → TakesElements end depth old new Q
+TakesElements-up_to Bracket depth some old new P Q gives s = items_finish depth some P old (end_array ∷ new) s Q new refl (gives s.before s.holds)
+TakesElements-up_to Text depth some old new P Q gives s = (
+  s.0,
+  cut_off depth some old P (s.1.so_far false),
+  items_finish depth some P (with_bracket old) (end_array ∷ []) (s.1.so_far true) Q [] refl (gives (s.1.so_far true).before (s.1.so_far true).holds),
+)

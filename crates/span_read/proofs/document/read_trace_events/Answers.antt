@@ -1,11 +1,16 @@
-use Rattle.std.proofs.{Common.{refl, arith}, lemmas.Result.IfOk-weaker}
-use Rattle.span_read.proofs.Turns.{array_value, object_value}
+use Rattle.std.proofs.{Common.{refl, arith, rules}, lemmas.Result.IfOk-weaker}
+use Rattle.span_read.specs.Divided.{left_of, left_with}
+use Rattle.span_read.proofs.{Middles.{left_with-first, left_with-value}, Turns.{array_value, object_value}}
 use Rattle.span_read.proofs.document.read_trace_events.Goals as goal
 
 pub returns-in_ok-pass_object-in-Object-clause-found : goal.returns-in_ok-pass_object-in-Object-clause-found
 returns-in_ok-pass_object-in-Object-clause-found c =
-    object_value c.args.depth c.args.tokens.now.reader c.next_beginning.new.reader c.pass_object.new.reader _ _ (grind arith) (λ ms any. refl) c.in_ok-pass_object-in-Object.ensures.taken
+    left_with-value c.args.text.now.middle c.args.depth c.args.text.now.tokens.reader c.pass_object.new.reader _
+    (object_value c.args.depth c.args.text.now.tokens.reader c.next_beginning.new.reader c.pass_object.new.reader _ _ (grind arith) (λ ms any. refl) c.in_ok-pass_object-in-Object.ensures.taken)
 
 pub returns-in-Array-clause-found : goal.returns-in-Array-clause-found
 returns-in-Array-clause-found c =
-    IfOk-weaker c.read_elements.result _ _ (λ found. array_value c.args.depth c.args.tokens.now.reader c.next_beginning.new.reader c.read_elements.new.tokens.reader _ _ (grind arith) (λ ds is. is)) c.read_elements.ensures.found
+    IfOk-weaker c.read_elements.result _ _ (λ found. array_value c.args.depth (left_of c.args.text.now) (left_with c.next_beginning.new.reader c.args.text.now.middle) (left_of c.read_elements.new.text) _ _ (left_with-first c.args.text.now.middle _ c.args.text.now.tokens.reader c.next_beginning.new.reader (grind arith)) (λ ds is. is)) c.read_elements.ensures.found
+
+pub returns-in_default-clause-found : goal.returns-in_default-clause-found
+returns-in_default-clause-found c = left_with-value c.args.text.now.middle c.args.depth c.args.text.now.tokens.reader c.next_beginning.new.reader _ (search rules)

@@ -2,7 +2,7 @@ use Rattle.std.proofs.Common.{◌≡◌, ◌∷◌, refl, sym, ap, ◌∙◌, ar
 use Rattle.json.specs.{Reads.token_of, Token.Token}
 use Rattle.span_read.specs.Element.{item_of_fields}
 use Rattle.span_read.proofs.Turns.{array_value, object_value}
-use Rattle.span_read.proofs.document.read_item.Goals as goal
+use Rattle.span_read.proofs.elements.read_item.Goals as goal
 
 pub returns-in_ok-item_of_fields-in-Object-clause-item : goal.returns-in_ok-item_of_fields-in-Object-clause-item
 returns-in_ok-item_of_fields-in-Object-clause-item c =
