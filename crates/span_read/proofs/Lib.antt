@@ -1,7 +1,9 @@
+pub mod Alike
 pub mod ArgMaps
 pub mod Behind
 pub mod Bracket
 pub mod Collected
+pub mod Comma
 pub mod Decimals
 pub mod Documents
 pub mod Ends
@@ -12,6 +14,7 @@ pub mod LastByte
 pub mod Leaves
 pub mod Middles
 pub mod NameOrder
+pub mod Opening
 pub mod Slots
 pub mod Times
 pub mod Turns

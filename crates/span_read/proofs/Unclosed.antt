@@ -1,32 +1,11 @@
 -- An array whose closing bracket is missing doesn't read.
 use Rattle.std.specs.List.{suffix_len}
-use Rattle.std.proofs.{Common.{◌≡◌, ℕ, ◌+◌, ◌-◌, ◌≤◌, List, [], ◌∷◌, length, take, get_or, Option, Some, None, option_and_then, Bool, true, false, ◌||◌, ◌==◌, eqb-true, refl, sym, ap, ◌∙◌, arith, if◌then◌else◌}, lemmas.List.{get_or-take, length-take-le, Sums.suffix_len_is}}
-use Rattle.json.specs.{Json.{Json, value, if_last}, Lex.{Lexeme, token, space, class, between, lex_byte, lex, fresh, punctuate, tokens}, Token.{Token, begin_array}}
+use Rattle.std.proofs.{Common.{◌≡◌, ℕ, ◌+◌, ◌-◌, ◌≤◌, List, [], ◌∷◌, length, take, get_or, Option, Some, None, option_and_then, true, false, ◌==◌, refl, sym, ap, ◌∙◌, arith}, lemmas.List.{get_or-take, length-take-le, Sums.suffix_len_is}}
+use Rattle.json.specs.{Json.{Json, value, if_last}, Lex.{Lexeme, token, between, lex, fresh, punctuate, tokens}, Token.{Token, begin_array}}
 use Rattle.serde_json.specs.{Data.Data, Read.{read, of_json}}
 use Rattle.json.proofs.Grammar.{left}
 use Rattle.span_read.specs.{Document.{is_blank, opens_array, without_trailing_blanks}, Ending.closes_array}
-use Rattle.span_read.proofs.{Ends.array_ends, LastByte.{ClosesAt, ClosesAt-tokens}}
-
-blank_class : (b : ℕ) (p q r s : Bool) → (b == 32) ≡ p → (b == 9) ≡ q → (b == 10) ≡ r → (b == 13) ≡ s → (p || q || r || s) ≡ true → class b ≡ space
-blank_class b true q r s is h i j e = ap class (eqb-true b 32 is)
-blank_class b false true r s h is i j e = ap class (eqb-true b 9 is)
-blank_class b false false true s h i is j e = ap class (eqb-true b 10 is)
-blank_class b false false false true h i j is e = ap class (eqb-true b 13 is)
-blank_class b false false false false h i j k e = absurd (cc)
-
-abbrev Opens : List ℕ → Type 0
-Opens text = (rest : List Lexeme) × (lex between text ≡ token begin_array ∷ rest)
-
-opens_step : (blank : Bool) (b : ℕ) (text : List ℕ) → is_blank b ≡ blank → (if blank then opens_array text else b == 91) ≡ true → (opens_array text ≡ true → Opens text) → Opens (b ∷ text)
-unfolding lex
-opens_step true b text is e again =
-    let more = again e in
-    (more.0, ap (λ c. lex_byte between c b text (λ next. lex next text)) (blank_class b _ _ _ _ refl refl refl refl is) ∙ more.1)
-opens_step false b text is e again = (lex between text, ap (λ x. lex between (x ∷ text)) (eqb-true b 91 e))
-
-opens_lex : (text : List ℕ) → opens_array text ≡ true → Opens text
-opens_lex [] e = absurd (cc)
-opens_lex (b ∷ text) e = opens_step (is_blank b) b text refl e (opens_lex text)
+use Rattle.span_read.proofs.{Ends.array_ends, LastByte.{ClosesAt, ClosesAt-tokens}, Opening.opens_array-lex}
 
 begins : (ls rest : List Lexeme) → ls ≡ token begin_array ∷ rest → punctuate fresh ls ≡ begin_array ∷ punctuate fresh rest
 unfolding punctuate
@@ -34,7 +13,7 @@ begins ls rest is = ap (punctuate fresh) is
 
 closes : (text : List ℕ) → opens_array text ≡ true → left (value 127 (tokens text)) ≡ Some [] → ClosesAt text
 closes text opens all =
-    let ls = opens_lex text opens in
+    let ls = opens_array-lex text opens in
     let first : tokens text ≡ begin_array ∷ punctuate fresh ls.0 = begins (lex between text) ls.0 ls.1 in
     let last = array_ends 127 (punctuate fresh ls.0) (ap (λ ts. left (value 127 ts)) (sym first) ∙ all) in
     ClosesAt-tokens text (last.0, first ∙ last.1)
