@@ -36,21 +36,15 @@ module _ (R : List Token → List Token → Type 0) (grows : Grows R) where
 
   punctuated : (p : Place) (l : Lexeme) (ls ms : List Lexeme) → Alike R ls ms → R (punctuate p (l ∷ ls)) (punctuate p (l ∷ ms))
   unfolding punctuate
-  punctuated fresh comma ls ms is = grows.fault
   punctuated after_value comma ls ms is = is.tokens after_comma
-  punctuated after_comma comma ls ms is = grows.fault
-  punctuated after_key comma ls ms is = grows.fault
-  punctuated fresh colon ls ms is = grows.fault
-  punctuated after_value colon ls ms is = grows.fault
-  punctuated after_comma colon ls ms is = grows.fault
   punctuated after_key colon ls ms is = is.tokens fresh
   punctuated p (token t) ls ms is =
       subst (λ b. R (place_token p t (begins_colon ls) (λ next. punctuate next ls)) (place_token p t b (λ next. punctuate next ms))) (sym is.colon) (placed p t (begins_colon ls) (λ next. punctuate next ls) (λ next. punctuate next ms) is.tokens)
+  punctuated p l ls ms is = grows.fault
 
   colon_first : (l : Lexeme) (ls ms : List Lexeme) → begins_colon (l ∷ ms) ≡ begins_colon (l ∷ ls)
-  colon_first (token t) ls ms = refl
-  colon_first comma ls ms = refl
   colon_first colon ls ms = refl
+  colon_first l ls ms = refl
 
   one_more : (l : Lexeme) (ls ms : List Lexeme) → Alike R ls ms → Alike R (l ∷ ls) (l ∷ ms)
   one_more l ls ms is = record { tokens = λ p. punctuated p l ls ms is; colon = colon_first l ls ms }
@@ -59,9 +53,7 @@ module _ (R : List Token → List Token → Type 0) (grows : Grows R) where
 pub punctuate-bad : (p : Place) (ls : List Lexeme) → punctuate p (token bad ∷ ls) ≡ bad ∷ []
 unfolding punctuate
 punctuate-bad fresh ls = refl
-punctuate-bad after_value ls = refl
-punctuate-bad after_comma ls = refl
-punctuate-bad after_key ls = refl
+punctuate-bad p ls = refl
 
 at_fault : (R : List Token → List Token → Type 0) → Grows R → (ls ms : List Lexeme) → Alike R (token bad ∷ ls) (token bad ∷ ms)
 at_fault R grows ls ms = record { tokens = λ p. subst₂ R (sym (punctuate-bad p ls)) (sym (punctuate-bad p ms)) grows.fault; colon = refl }
@@ -77,7 +69,7 @@ unclosed-bad xs behind opened plainly escaped p =
     ap (λ c. punctuate p (token (string_token c) ∷ lex in_string (xs ++ behind))) none ∙ punctuate-bad p (lex in_string (xs ++ behind))
 
 -- two ends of a text that relate the tokens of the whole, also where the text ends within a string
-pub record Ends (R : List Token → List Token → Type 0) (first second : List ℕ) : Type 0 where
+pub record TwoEnds (R : List Token → List Token → Type 0) (first second : List ℕ) : Type 0 where
   pub grows : Grows R
   pub first_ends : EndsWord first
   pub second_ends : EndsWord second
@@ -88,7 +80,7 @@ pub record Ends (R : List Token → List Token → Type 0) (first second : List 
 still : (c : Class) (x : ℕ) (xs : List ℕ) → class x ≡ c → is_open in_string (x ∷ xs) ≡ false → is_open_at c (is_open in_escape xs) (is_open in_string xs) ≡ false
 still c x xs is closed = ap (λ d. is_open_at d (is_open in_escape xs) (is_open in_string xs)) (sym is) ∙ closed
 
-module _ (R : List Token → List Token → Type 0) (first second : List ℕ) (ends : Ends R first second) where
+module _ (R : List Token → List Token → Type 0) (first second : List ℕ) (ends : TwoEnds R first second) where
   at_quote : (xs : List ℕ) (b : Bool) → is_open in_string xs ≡ b → (is_open in_string xs ≡ false → Alike R (lex in_string (xs ++ first)) (lex in_string (xs ++ second))) → Alike R (lex_string (xs ++ first)) (lex_string (xs ++ second))
   at_quote xs true opened again = ends.unclosed xs opened
   at_quote xs false closed again =

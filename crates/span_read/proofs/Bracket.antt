@@ -3,9 +3,9 @@ pub mod Turns
 pub mod Values
 pub mod Whole
 use Rattle.std.proofs.{Common.{◌≡◌, ℕ, List, [], ◌∷◌, ◌++◌, true, false, refl, sym, ap, ◌∙◌}, lemmas.List.append-nil}
-use Rattle.json.specs.{Lex.{token, Mode, between, in_word, in_string, in_escape, lex, Place, fresh, after_value, after_comma, after_key, punctuate, tokens}, Token.{Token, end_array, bad}}
+use Rattle.json.specs.{Lex.{token, Mode, between, in_word, in_string, lex, Place, fresh, punctuate, tokens}, Token.{Token, end_array}}
 use Rattle.span_read.specs.{Ending.{with_bracket}, Parts.{AreGood}}
-use Rattle.span_read.proofs.Alike.{Alike, Grows, Ends, lex_string, unclosed-bad, tokens-alike, Strings.{is_open}, Words.{EndsWord-nothing, EndsWord-bracket}}
+use Rattle.span_read.proofs.Alike.{Alike, TwoEnds, lex_string, unclosed-bad, tokens-alike, Strings.{is_open}, Words.{EndsWord-nothing, EndsWord-bracket}}
 
 abbrev Closes : List Token → List Token → Type 0
 Closes ts closed = closed ≡ with_bracket ts
@@ -17,16 +17,13 @@ one_more t ts closed good is = ap (λ r. t ∷ r) is
 last_bracket : (p : Place) → Closes (punctuate p []) (punctuate p (token end_array ∷ []))
 unfolding punctuate
 last_bracket fresh = refl
-last_bracket after_value = refl
-last_bracket after_comma = refl
-last_bracket after_key = refl
+last_bracket p = refl
 
 at_end : (m : Mode) → is_open m [] ≡ false → Alike Closes (lex m []) (lex m (93 ∷ []))
 unfolding lex
 at_end between closed = record { tokens = last_bracket; colon = refl }
 at_end in_word closed = record { tokens = last_bracket; colon = refl }
-at_end in_string closed = absurd (cc)
-at_end in_escape closed = absurd (cc)
+at_end m closed = absurd (cc)
 
 unclosed : (xs : List ℕ) → is_open in_string xs ≡ true → Alike Closes (lex_string (xs ++ [])) (lex_string (xs ++ 93 ∷ []))
 unclosed xs opened = record { tokens = λ p. unclosed-bad xs (93 ∷ []) opened refl refl p ∙ ap with_bracket (sym (unclosed-bad xs [] opened refl refl p)); colon = refl }
@@ -34,5 +31,5 @@ unclosed xs opened = record { tokens = λ p. unclosed-bad xs (93 ∷ []) opened 
 -- a closing bracket behind a text is one token more, unless its tokens end with a fault
 pub tokens-bracket : (text : List ℕ) → tokens (text ++ 93 ∷ []) ≡ with_bracket (tokens text)
 tokens-bracket text =
-    let ends : Ends Closes [] (93 ∷ []) = record { grows = record { more = one_more; fault = refl }; first_ends = EndsWord-nothing; second_ends = EndsWord-bracket []; at_end = at_end; unclosed = unclosed } in
+    let ends : TwoEnds Closes [] (93 ∷ []) = record { grows = record { more = one_more; fault = refl }; first_ends = EndsWord-nothing; second_ends = EndsWord-bracket []; at_end = at_end; unclosed = unclosed } in
     tokens-alike Closes [] (93 ∷ []) ends text ∙ ap (λ t. with_bracket (tokens t)) (append-nil text)

@@ -19,14 +19,13 @@ is_open in_string (x ∷ xs) = is_open_at (class x) (is_open in_escape xs) (is_o
 is_open in_escape [] = true
 is_open in_escape (x ∷ xs) = is_open in_string xs
 
--- a string that stays open over what is behind it stays open
+-- a text that closes no string changes nothing
 pub is_open-append : (m : Mode) (xs behind : List ℕ) → is_open in_string behind ≡ true → is_open in_escape behind ≡ true → is_open m (xs ++ behind) ≡ is_open m xs
-is_open-append between xs behind string escape = refl
-is_open-append in_word xs behind string escape = refl
 is_open-append in_string [] behind string escape = string
 is_open-append in_string (x ∷ xs) behind string escape = λ i. is_open_at (class x) (is_open-append in_escape xs behind string escape i) (is_open-append in_string xs behind string escape i)
 is_open-append in_escape [] behind string escape = escape
 is_open-append in_escape (x ∷ xs) behind string escape = is_open-append in_string xs behind string escape
+is_open-append m xs behind string escape = refl
 
 by_class : (q s o p escape string : Bool) → is_open_at (cond q quote (cond s backslash (cond o operator (cond p space other)))) escape string ≡ cond q false (cond s escape string)
 by_class true s o p escape string = refl
@@ -35,7 +34,7 @@ by_class false false true p escape string = refl
 by_class false false false true escape string = refl
 by_class false false false false escape string = refl
 
--- whether the string is open after the byte x depends on whether it is a quote, and whether a backslash
+-- of the first byte it matters whether it is a quote, and whether it is a backslash
 is_open-first : (x : ℕ) (xs : List ℕ) (b : Bool) → is_open in_string (x ∷ xs) ≡ b → cond (x == 34) false (cond (x == 92) (is_open in_escape xs) (is_open in_string xs)) ≡ b
 is_open-first x xs b is = sym (by_class (x == 34) (x == 92) (is_operator x) (is_space x) _ _) ∙ is
 
@@ -70,13 +69,13 @@ same_digits : (digits : Bool) (u : ℕ) (f g : ℕ → Option (List ℕ)) → (d
 same_digits true u f g same = same refl
 same_digits false u f g same = refl
 
--- what four digits give depends on what is behind them
+-- what four digits and a text behind them give, from what the text gives
 same_unit : (a b c d : ℕ) (xs : List ℕ) (is : Bool) (f g : ℕ → Option (List ℕ)) → is_open in_string (a ∷ b ∷ c ∷ d ∷ xs) ≡ is → (is_open in_string xs ≡ is → (u : ℕ) → f u ≡ g u)
     → option_and_then f (code_unit a b c d) ≡ option_and_then g (code_unit a b c d)
 unfolding code_unit
 same_unit a b c d xs is f g opened same = same_digits _ _ f g (λ digits. same (sym (four_digits a b c d xs digits) ∙ opened) _)
 
--- a pair's second half begins with a backslash and a letter
+-- what the second half of a surrogate pair gives, from what its digits give
 same_pair : (s u : ℕ) (xs : List ℕ) (is p q : Bool) (first second : Option (List ℕ)) → (s == 92) ≡ p → is_open in_string (s ∷ u ∷ xs) ≡ is → (is_open in_string xs ≡ is → first ≡ second) → cond (p && q) first None ≡ cond (p && q) second None
 same_pair s u xs is false q first second escape opened same = refl
 same_pair s u xs is true false first second escape opened same = refl
@@ -105,11 +104,8 @@ few_digits : (xs behind : List ℕ) → length xs < 4 → is_open in_string xs �
 few_digits xs behind short closed = omega (arith, hex_len-closed xs behind closed, prefix_len-le-length is_hex xs)
 
 few_step : (p q r s : Bool) (n : ℕ) (o : Option ℕ) → cond p (1 + cond q (1 + cond r (1 + cond s (1 + n) 0) 0) 0) 0 < 4 → cond (p && q && r && s) o None ≡ None
-few_step false q r s n o less = refl
-few_step true false r s n o less = refl
-few_step true true false s n o less = refl
-few_step true true true false n o less = refl
 few_step true true true true n o less = absurd (omega arith)
+few_step p q r s n o less = refl
 
 code_unit-few : (a b c d : ℕ) (xs : List ℕ) → hex_len (a ∷ b ∷ c ∷ d ∷ xs) < 4 → code_unit a b c d ≡ None
 unfolding code_unit
@@ -117,11 +113,8 @@ code_unit-few a b c d xs less = few_step (is_hex a) (is_hex b) (is_hex c) (is_he
 
 after_u-few : (xs : List ℕ) → hex_len xs < 4 → content after_u xs ≡ None
 unfolding content
-after_u-few [] less = refl
-after_u-few (a ∷ []) less = refl
-after_u-few (a ∷ b ∷ []) less = refl
-after_u-few (a ∷ b ∷ c ∷ []) less = refl
 after_u-few (a ∷ b ∷ c ∷ d ∷ xs) less = ap (option_and_then _) (code_unit-few a b c d xs less)
+after_u-few xs less = refl
 
 after_u-short : (xs behind : List ℕ) → length xs < 4 → is_open in_string xs ≡ false → content after_u (xs ++ behind) ≡ None
 after_u-short xs behind short closed = after_u-few (xs ++ behind) (few_digits xs behind short closed)
@@ -132,12 +125,8 @@ pair_few true q a b c d xs f less = ap (λ o. cond q (option_and_then f o) None)
 
 after_high-few : (h s : ℕ) (xs : List ℕ) → ((s == 92) ≡ true → hex_len (drop 1 xs) < 4) → content (after_high h) (s ∷ xs) ≡ None
 unfolding content
-after_high-few h s [] less = refl
-after_high-few h s (u ∷ []) less = refl
-after_high-few h s (u ∷ a ∷ []) less = refl
-after_high-few h s (u ∷ a ∷ b ∷ []) less = refl
-after_high-few h s (u ∷ a ∷ b ∷ c ∷ []) less = refl
 after_high-few h s (u ∷ a ∷ b ∷ c ∷ d ∷ xs) less = pair_few (s == 92) (u == 117) a b c d xs _ less
+after_high-few h s xs less = refl
 
 few_after : (s : ℕ) (xs behind : List ℕ) → length xs < 5 → is_open in_string (s ∷ xs) ≡ false → (s == 92) ≡ true → hex_len (drop 1 (xs ++ behind)) < 4
 few_after s [] behind short closed escape = let none : true ≡ false = ap (λ y. is_open in_string (y ∷ [])) (sym (eqb-true s 92 escape)) ∙ closed in absurd (cc)
@@ -160,20 +149,13 @@ content-closed plain (x ∷ xs) behind closed = plain_same (x == 34) (x == 92) x
 content-closed after_backslash [] behind closed = absurd (cc)
 content-closed after_backslash (x ∷ xs) behind closed =
     λ i. cond (x == 117) (content-closed after_u xs behind closed i) (option_and_then (λ c. prepend (c ∷ []) (content-closed plain xs behind closed i)) (short_escape x))
-content-closed after_u [] behind closed = absurd (cc)
-content-closed after_u (a ∷ []) behind closed = after_u-short (a ∷ []) behind (omega arith) closed
-content-closed after_u (a ∷ b ∷ []) behind closed = after_u-short (a ∷ b ∷ []) behind (omega arith) closed
-content-closed after_u (a ∷ b ∷ c ∷ []) behind closed = after_u-short (a ∷ b ∷ c ∷ []) behind (omega arith) closed
 content-closed after_u (a ∷ b ∷ c ∷ d ∷ xs) behind closed =
     same_unit a b c d xs _ _ _ closed (λ more u i. cond (is_high_surrogate u) (content-closed (after_high u) xs behind more i) (cond (is_low_surrogate u) None (prepend (encode_utf8 u) (content-closed plain xs behind more i))))
-content-closed (after_high h) [] behind closed = absurd (cc)
-content-closed (after_high h) (s ∷ []) behind closed = after_high-short h s [] behind (omega arith) closed
-content-closed (after_high h) (s ∷ u ∷ []) behind closed = after_high-short h s (u ∷ []) behind (omega arith) closed
-content-closed (after_high h) (s ∷ u ∷ a ∷ []) behind closed = after_high-short h s (u ∷ a ∷ []) behind (omega arith) closed
-content-closed (after_high h) (s ∷ u ∷ a ∷ b ∷ []) behind closed = after_high-short h s (u ∷ a ∷ b ∷ []) behind (omega arith) closed
-content-closed (after_high h) (s ∷ u ∷ a ∷ b ∷ c ∷ []) behind closed = after_high-short h s (u ∷ a ∷ b ∷ c ∷ []) behind (omega arith) closed
+content-closed after_u xs behind closed = after_u-short xs behind (omega arith) closed
 content-closed (after_high h) (s ∷ u ∷ a ∷ b ∷ c ∷ d ∷ xs) behind closed =
     same_pair s u (a ∷ b ∷ c ∷ d ∷ xs) _ (s == 92) (u == 117) _ _ refl closed (λ rest. same_unit a b c d xs _ _ _ rest (λ more l i. cond (is_low_surrogate l) (prepend (encode_utf8 (surrogate_pair h l)) (content-closed plain xs behind more i)) None))
+content-closed (after_high h) (s ∷ xs) behind closed = after_high-short h s xs behind (omega arith) closed
+content-closed (after_high h) [] behind closed = absurd (cc)
 
 -- ---- a string that is not closed
 
@@ -209,17 +191,9 @@ content-open plain (x ∷ xs) opened = plain_none (x == 34) (x == 92) x _ _ _ _ 
 content-open after_backslash [] opened = refl
 content-open after_backslash (x ∷ xs) opened =
     (λ i. cond (x == 117) (content-open after_u xs opened i) (option_and_then (λ c. prepend (c ∷ []) (content-open plain xs opened i)) (short_escape x))) ∙ escape_none (x == 117) (short_escape x)
-content-open after_u [] opened = refl
-content-open after_u (a ∷ []) opened = refl
-content-open after_u (a ∷ b ∷ []) opened = refl
-content-open after_u (a ∷ b ∷ c ∷ []) opened = refl
 content-open after_u (a ∷ b ∷ c ∷ d ∷ xs) opened =
     same_unit a b c d xs _ _ _ opened (λ more u. high_none _ _ u _ _ (content-open (after_high u) xs more) (content-open plain xs more)) ∙ unit_none (code_unit a b c d)
-content-open (after_high h) [] opened = refl
-content-open (after_high h) (s ∷ []) opened = refl
-content-open (after_high h) (s ∷ u ∷ []) opened = refl
-content-open (after_high h) (s ∷ u ∷ a ∷ []) opened = refl
-content-open (after_high h) (s ∷ u ∷ a ∷ b ∷ []) opened = refl
-content-open (after_high h) (s ∷ u ∷ a ∷ b ∷ c ∷ []) opened = refl
+content-open after_u xs opened = refl
 content-open (after_high h) (s ∷ u ∷ a ∷ b ∷ c ∷ d ∷ xs) opened =
     same_pair s u (a ∷ b ∷ c ∷ d ∷ xs) _ (s == 92) (u == 117) _ _ refl opened (λ rest. same_unit a b c d xs _ _ _ rest (λ more l. low_none _ (surrogate_pair h l) _ (content-open plain xs more)) ∙ unit_none (code_unit a b c d)) ∙ both_none _
+content-open (after_high h) xs opened = refl

@@ -3,10 +3,10 @@ use Rattle.std.specs.{Char.is_ascii_digit, List.{prefix_len, starts_with}}
 use Rattle.std.proofs.{Common.{◌≡◌, ℕ, ◌+◌, ◌-◌, ◌≤◌, List, [], ◌∷◌, ◌++◌, length, take, drop, Bool, true, false, cond, ◌&&◌, ◌==◌, nat_eq, Option, Some, None, option_map, option_and_then, refl, ap, ◌∙◌, arith}, lemmas.List.{length-append, take-append-le, drop-append-le, Sums.prefix_len-le-length}}
 use Rattle.json.specs.{Ascii.{true_text, false_text, null_text}, Token.{Token, number, boolean, null, bad}, Word.{ends_word, after_digits, after_minus, after_sign, after_whole, after_fraction, after_exponent, after_number, number_before, literal, word}}
 
--- no rest of the name begins the text
-abbrev is_apart : List ℕ → List ℕ → Bool
-is_apart text [] = true
-is_apart text (c ∷ name) = cond (starts_with nat_eq text (c ∷ name)) false (is_apart text name)
+-- the text begins neither with the name nor with an end of it
+abbrev starts_none : List ℕ → List ℕ → Bool
+starts_none text [] = true
+starts_none text (c ∷ name) = cond (starts_with nat_eq text (c ∷ name)) false (starts_none text name)
 
 -- a word ends before the text, as it does where no text is
 pub record EndsWord (behind : List ℕ) : Type 0 where
@@ -17,9 +17,9 @@ pub record EndsWord (behind : List ℕ) : Type 0 where
   pub whole : after_whole behind ≡ None
   pub fraction : after_fraction behind ≡ Some behind
   pub exponent : after_exponent behind ≡ Some behind
-  pub no_true : is_apart behind true_text ≡ true
-  pub no_false : is_apart behind false_text ≡ true
-  pub no_null : is_apart behind null_text ≡ true
+  pub no_true : starts_none behind true_text ≡ true
+  pub no_false : starts_none behind false_text ≡ true
+  pub no_null : starts_none behind null_text ≡ true
 
 pub EndsWord-nothing : EndsWord []
 EndsWord-nothing = record { ends = refl; digits = refl; minus = refl; sign = refl; whole = refl; fraction = refl; exponent = refl; no_true = refl; no_false = refl; no_null = refl }
@@ -30,17 +30,17 @@ EndsWord-bracket text = record { ends = refl; digits = refl; minus = refl; sign 
 pub EndsWord-brace : (text : List ℕ) → EndsWord (125 ∷ text)
 EndsWord-brace text = record { ends = refl; digits = refl; minus = refl; sign = refl; whole = refl; fraction = refl; exponent = refl; no_true = refl; no_false = refl; no_null = refl }
 
-abbrev longer : List ℕ → Option (List ℕ) → Option (List ℕ)
-longer behind rest = option_map (λ r. r ++ behind) rest
+abbrev with_behind : List ℕ → Option (List ℕ) → Option (List ℕ)
+with_behind behind rest = option_map (λ r. r ++ behind) rest
 
 -- what follows a part of a word has the text behind it
 abbrev Keeps : List ℕ → (List ℕ → Option (List ℕ)) → Type 0
-Keeps behind after = (t : List ℕ) → after (t ++ behind) ≡ longer behind (after t)
+Keeps behind after = (t : List ℕ) → after (t ++ behind) ≡ with_behind behind (after t)
 
 abbrev is_word : List ℕ → List ℕ → Bool
 is_word name t = starts_with nat_eq t name && ends_word (drop (length name) t)
 
-digits_step : (behind : List ℕ) (b : Bool) (n : ℕ) (t : List ℕ) → n ≤ length t → cond b None (Some (drop n (t ++ behind))) ≡ longer behind (cond b None (Some (drop n t)))
+digits_step : (behind : List ℕ) (b : Bool) (n : ℕ) (t : List ℕ) → n ≤ length t → cond b None (Some (drop n (t ++ behind))) ≡ with_behind behind (cond b None (Some (drop n t)))
 digits_step behind true n t within = refl
 digits_step behind false n t within = ap Some (drop-append-le n t behind within)
 
@@ -48,11 +48,11 @@ one_less : (behind : List ℕ) (b : Bool) (x : ℕ) (t : List ℕ) → cond b (t
 one_less behind true x t = refl
 one_less behind false x t = refl
 
-either : (behind : List ℕ) (b : Bool) (o p q r : Option (List ℕ)) → o ≡ longer behind q → p ≡ longer behind r → cond b o p ≡ longer behind (cond b q r)
+either : (behind : List ℕ) (b : Bool) (o p q r : Option (List ℕ)) → o ≡ with_behind behind q → p ≡ with_behind behind r → cond b o p ≡ with_behind behind (cond b q r)
 either behind true o p q r is_first is_second = is_first
 either behind false o p q r is_first is_second = is_second
 
-then : (behind : List ℕ) (after : List ℕ → Option (List ℕ)) → Keeps behind after → (o p : Option (List ℕ)) → o ≡ longer behind p → option_and_then after o ≡ longer behind (option_and_then after p)
+then : (behind : List ℕ) (after : List ℕ → Option (List ℕ)) → Keeps behind after → (o p : Option (List ℕ)) → o ≡ with_behind behind p → option_and_then after o ≡ with_behind behind (option_and_then after p)
 then behind after keeps o None is = ap (option_and_then after) is
 then behind after keeps o (Some t) is = ap (option_and_then after) is ∙ keeps t
 
@@ -60,9 +60,9 @@ and_more : (b p q r s : Bool) → (p && q) ≡ (r && s) → ((b && p) && q) ≡ 
 and_more true p q r s is = is
 and_more false p q r s is = refl
 
-apart_parts : (b rest : Bool) → cond b false rest ≡ true → (b ≡ false) × (rest ≡ true)
-apart_parts true rest apart = absurd (cc)
-apart_parts false rest apart = (refl, apart)
+none_parts : (b rest : Bool) → cond b false rest ≡ true → (b ≡ false) × (rest ≡ true)
+none_parts true rest none = absurd (cc)
+none_parts false rest none = (refl, none)
 
 module _ (behind : List ℕ) (is : EndsWord behind) where
   ends_word-behind : (t : List ℕ) → ends_word (t ++ behind) ≡ ends_word t
@@ -105,7 +105,7 @@ module _ (behind : List ℕ) (is : EndsWord behind) where
       let whole = ap after_whole (after_minus-behind t) ∙ after_whole-behind (after_minus t) in
       then behind after_exponent after_exponent-behind _ _ (then behind after_fraction after_fraction-behind _ _ whole)
 
-  number_before-behind : (t : List ℕ) (o : Option (List ℕ)) → number_before (t ++ behind) (longer behind o) ≡ number_before t o
+  number_before-behind : (t : List ℕ) (o : Option (List ℕ)) → number_before (t ++ behind) (with_behind behind o) ≡ number_before t o
   number_before-behind t None = refl
   number_before-behind t (Some rest) =
       let same : length (t ++ behind) - length (rest ++ behind) ≡ length t - length rest = omega (arith, length-append t behind, length-append rest behind) in
@@ -114,13 +114,13 @@ module _ (behind : List ℕ) (is : EndsWord behind) where
 
   -- ---- literals
 
-  is_word-behind : (name t : List ℕ) → is_apart behind name ≡ true → is_word name (t ++ behind) ≡ is_word name t
-  is_word-behind [] t apart = ends_word-behind t
-  is_word-behind (c ∷ name) [] apart = ap (λ b. b && ends_word (drop (length (c ∷ name)) behind)) (apart_parts _ _ apart).0
-  is_word-behind (c ∷ name) (x ∷ t) apart = and_more (nat_eq c x) _ _ _ _ (is_word-behind name t (apart_parts _ _ apart).1)
+  is_word-behind : (name t : List ℕ) → starts_none behind name ≡ true → is_word name (t ++ behind) ≡ is_word name t
+  is_word-behind [] t none = ends_word-behind t
+  is_word-behind (c ∷ name) [] none = ap (λ b. b && ends_word (drop (length (c ∷ name)) behind)) (none_parts _ _ none).0
+  is_word-behind (c ∷ name) (x ∷ t) none = and_more (nat_eq c x) _ _ _ _ (is_word-behind name t (none_parts _ _ none).1)
 
-  literal-behind : (name : List ℕ) (u : Token) (t : List ℕ) → is_apart behind name ≡ true → literal name u (t ++ behind) ≡ literal name u t
-  literal-behind name u t apart = ap (λ b. cond b u bad) (is_word-behind name t apart)
+  literal-behind : (name : List ℕ) (u : Token) (t : List ℕ) → starts_none behind name ≡ true → literal name u (t ++ behind) ≡ literal name u t
+  literal-behind name u t none = ap (λ b. cond b u bad) (is_word-behind name t none)
 
   -- a word is the same with the text behind it
   pub word-behind : (x : ℕ) (xs : List ℕ) → word (x ∷ (xs ++ behind)) ≡ word (x ∷ xs)
