@@ -2,9 +2,10 @@
 pub mod Turns
 pub mod Values
 pub mod Whole
-use Rattle.std.proofs.{Common.{◌≡◌, ℕ, List, [], ◌∷◌, ◌++◌, true, false, refl, sym, ap, ◌∙◌}, lemmas.List.append-nil}
+use Rattle.std.proofs.{Common.{◌≡◌, ℕ, List, [], ◌∷◌, ◌++◌, Bool, true, false, if◌then◌else◌, refl, sym, ap, ◌∙◌}, lemmas.List.append-nil}
 use Rattle.json.specs.{Lex.{token, Mode, between, in_word, in_string, lex, Place, fresh, punctuate, tokens}, Token.{Token, end_array}}
-use Rattle.span_read.specs.{Ending.{with_bracket}, Parts.{AreGood}}
+use Rattle.serde_json.specs.Read.{read}
+use Rattle.span_read.specs.{Ending.{ended, with_bracket}, Parts.{AreGood}, Tokens.{data_of_all}}
 use Rattle.span_read.proofs.Alike.{Alike, TwoEnds, lex_string, unclosed-bad, tokens-alike, Strings.{is_open}, Words.{EndsWord-nothing, EndsWord-bracket}}
 
 abbrev Closes : List Token → List Token → Type 0
@@ -33,3 +34,8 @@ pub tokens-bracket : (text : List ℕ) → tokens (text ++ 93 ∷ []) ≡ with_b
 tokens-bracket text =
     let ends : TwoEnds Closes [] (93 ∷ []) = record { grows = record { more = one_more; fault = refl }; first_ends = EndsWord-nothing; second_ends = EndsWord-bracket []; at_end = at_end; unclosed = unclosed } in
     tokens-alike Closes [] (93 ∷ []) ends text ∙ ap (λ t. with_bracket (tokens t)) (append-nil text)
+
+-- what the tokens are, with or without a bracket behind them, is what the text is read as
+pub data_of_all-ended : (text : List ℕ) (bracket : Bool) → data_of_all 127 (ended bracket (tokens text)) ≡ read (if bracket then text ++ 93 ∷ [] else text)
+data_of_all-ended text true = ap (data_of_all 127) (sym (tokens-bracket text))
+data_of_all-ended text false = refl

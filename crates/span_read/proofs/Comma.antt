@@ -1,7 +1,7 @@
 -- The tokens of two texts with a comma between them.
 use Rattle.std.proofs.Common.{◌≡◌, ℕ, List, [], ◌∷◌, ◌++◌, true, false, refl, sym, ap, ◌∙◌, subst}
 use Rattle.json.specs.{Lex.{Lexeme, token, Mode, between, in_word, in_string, lex, Place, fresh, after_value, after_comma, punctuate, tokens}, Token.{Token, end_object}}
-use Rattle.span_read.specs.Parts.{AreGood, opens_object}
+use Rattle.span_read.specs.{Document.opens_with, Parts.AreGood}
 use Rattle.span_read.proofs.{Alike.{Alike, TwoEnds, lex_string, unclosed-bad, tokens-alike, Strings.is_open, Words.EndsWord-brace}, Opening.opens_object-lex}
 
 -- where none of them is a fault, those of the longer text go on
@@ -40,10 +40,10 @@ module _ (rest : List ℕ) where
       let ends : TwoEnds Continues (125 ∷ []) (125 ∷ rest) = record { grows = record { more = one_more _; fault = λ none. absurd none }; first_ends = EndsWord-brace []; second_ends = EndsWord-brace rest; at_end = at_end; unclosed = unclosed } in
       tokens-alike Continues (125 ∷ []) (125 ∷ rest) ends front good
 
-after_comma-object : (rest : List ℕ) → opens_object rest ≡ true → punctuate after_value (lex between (44 ∷ rest)) ≡ tokens rest
+after_comma-object : (rest : List ℕ) → opens_with 123 rest ≡ true → punctuate after_value (lex between (44 ∷ rest)) ≡ tokens rest
 unfolding lex punctuate
 after_comma-object rest opens = let ls = opens_object-lex rest opens in ap (punctuate after_comma) ls.1 ∙ sym (ap (punctuate fresh) ls.1)
 
 -- a comma between an element that ends with a brace and one that begins with one parts the tokens
-pub tokens-comma : (front rest : List ℕ) → AreGood (tokens (front ++ 125 ∷ [])) → opens_object rest ≡ true → tokens (front ++ 125 ∷ 44 ∷ rest) ≡ tokens (front ++ 125 ∷ []) ++ tokens rest
+pub tokens-comma : (front rest : List ℕ) → AreGood (tokens (front ++ 125 ∷ [])) → opens_with 123 rest ≡ true → tokens (front ++ 125 ∷ 44 ∷ rest) ≡ tokens (front ++ 125 ∷ []) ++ tokens rest
 tokens-comma front rest good opens = tokens-brace (44 ∷ rest) front good ∙ ap (λ ts. tokens (front ++ 125 ∷ []) ++ ts) (after_comma-object rest opens)

@@ -112,10 +112,13 @@ unfolding value
 array_ends zero ts e = cc
 array_ends (suc d) ts e = longer (begin_array ∷ ts) ts (begin_array ∷ [], refl, tt) (TakesAll-items d (length ts) ts (sym (left-parse_map json.array (items (value d) (length ts) ts)) ∙ e))
 
--- ---- what all of an array's rest takes
+-- ---- all tokens are taken
 
--- all tokens that an array's rest takes are without a fault
+all_good : (ts : List Token) → IsEnd ts [] → AreGood ts
+all_good ts end = subst AreGood (sym (append-nil end.0) ∙ sym end.1) end.2
+
 pub items_good : (depth n : ℕ) (ts : List Token) → left (items (value depth) n ts) ≡ Some [] → AreGood ts
-items_good depth n ts e =
-    let end = Leaves-items (value depth) (Leaves-value depth) n ts [] e in
-    subst AreGood (sym (append-nil end.0) ∙ sym end.1) end.2
+items_good depth n ts e = all_good ts (Leaves-items (value depth) (Leaves-value depth) n ts [] e)
+
+pub value_good : (depth : ℕ) (ts : List Token) → left (value depth ts) ≡ Some [] → AreGood ts
+value_good depth ts e = all_good ts (Leaves-value depth ts [] e)

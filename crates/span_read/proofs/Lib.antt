@@ -4,6 +4,7 @@ pub mod Behind
 pub mod Bracket
 pub mod Collected
 pub mod Comma
+pub mod Cutting
 pub mod Decimals
 pub mod Documents
 pub mod Ends

@@ -1,10 +1,9 @@
 -- What is read of a text whose middle was read before.
-use Rattle.std.proofs.Common.{◌≡◌, ℕ, zero, suc, ◌-◌, ◌<◌, ◌≤◌, List, [], ◌∷◌, ◌++◌, length, Bool, true, false, Option, Some, None, option_and_then, append_assoc, refl, sym, ap, ◌∙◌, subst, arith}
-use Rattle.std.proofs.lemmas.List.{append-nil}
+use Rattle.std.proofs.Common.{◌≡◌, ℕ, zero, suc, ◌<◌, ◌≤◌, List, [], ◌∷◌, ◌++◌, length, Bool, true, false, Option, Some, None, option_and_then, append_assoc, refl, sym, ap, ◌∙◌, subst, arith}
 use Rattle.json.specs.{Json.{Parse, parse_map, after_end_array, read_key, items_step, items, value}, Lex.tokens, Token.{Token, begin_object, end_object, begin_array, end_array, key, string, number, boolean, null, bad}}
-use Rattle.json.proofs.Grammar.{left, left-parse_map, Takes, skip_value-shorter}
+use Rattle.json.proofs.Grammar.{left, Takes, skip_value-shorter}
 use Rattle.serde_json.specs.{Data.{Data, array, Items, no_items, item}, Read.{of_items, converted}}
-use Rattle.span_read.specs.{Divided.left_with, Elements.{ReadsSoFar, TakesUpTo}, Ending.{with_bracket, ended}, Parts.AreGood, Tokens.{data_at, TakesArray, TakesValue, items_before, ItemsSoFar}, declared.{divided.Middle.Middle, elements.End.{End, TheVariants.{Bracket, Text}}}}
+use Rattle.span_read.specs.{Divided.left_with, Elements.{ReadsSoFar, TakesUpTo}, Ending.{with_bracket, ended}, Parts.AreGood, Tokens.{TakesArray, TakesValue, items_before, ItemsSoFar}, declared.{divided.Middle.Middle, elements.End.{End, TheVariants.{Bracket, Text}}}}
 use Rattle.span_read.proofs.{Behind.{data_at-behind, read_key-behind}, Ends.items_good, Grammar.{converted_some, items_over}}
 use Rattle.json.specs.Json as json
 

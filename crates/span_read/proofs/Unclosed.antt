@@ -4,14 +4,14 @@ use Rattle.std.proofs.{Common.{◌≡◌, ℕ, ◌+◌, ◌-◌, ◌≤◌, List
 use Rattle.json.specs.{Json.{Json, value, if_last}, Lex.{Lexeme, token, between, lex, fresh, punctuate, tokens}, Token.{Token, begin_array}}
 use Rattle.serde_json.specs.{Data.Data, Read.{read, of_json}}
 use Rattle.json.proofs.Grammar.{left}
-use Rattle.span_read.specs.{Document.{is_blank, opens_array, without_trailing_blanks}, Ending.closes_array}
+use Rattle.span_read.specs.{Document.{is_blank, opens_with, without_trailing_blanks}, Ending.closes_array}
 use Rattle.span_read.proofs.{Ends.array_ends, LastByte.{ClosesAt, ClosesAt-tokens}, Opening.opens_array-lex}
 
 begins : (ls rest : List Lexeme) → ls ≡ token begin_array ∷ rest → punctuate fresh ls ≡ begin_array ∷ punctuate fresh rest
 unfolding punctuate
 begins ls rest is = ap (punctuate fresh) is
 
-closes : (text : List ℕ) → opens_array text ≡ true → left (value 127 (tokens text)) ≡ Some [] → ClosesAt text
+closes : (text : List ℕ) → opens_with 91 text ≡ true → left (value 127 (tokens text)) ≡ Some [] → ClosesAt text
 closes text opens all =
     let ls = opens_array-lex text opens in
     let first : tokens text ≡ begin_array ∷ punctuate fresh ls.0 = begins (lex between text) ls.0 ls.1 in
@@ -22,7 +22,7 @@ closes text opens all =
 abbrev whole : Option (Json × List Token) → Option Data
 whole o = option_and_then of_json (option_and_then (λ p. if_last p.0 p.1) o)
 
-unread : (text : List ℕ) (o : Option (Json × List Token)) → value 127 (tokens text) ≡ o → opens_array text ≡ true → (ClosesAt text → ⊥) → whole o ≡ None
+unread : (text : List ℕ) (o : Option (Json × List Token)) → value 127 (tokens text) ≡ o → opens_with 91 text ≡ true → (ClosesAt text → ⊥) → whole o ≡ None
 unread text None is opens unclosed = refl
 unread text (Some (j, [])) is opens unclosed = absurd (unclosed (closes text opens (ap left is)))
 unread text (Some (j, t ∷ r)) is opens unclosed = refl
@@ -39,5 +39,5 @@ closes_array-ClosesAt text s =
     let byte : get_or (take end text) (length (take end text) - 1) 0 ≡ 93 = ap (λ i. get_or (take end text) i 0) last ∙ get_or-take end text s.place 0 (omega arith) ∙ s.bracket in
     ap (λ t. get_or t (length t - 1) 0 == 93) trimmed ∙ ap (λ b. b == 93) byte
 
-pub read-unclosed : (text : List ℕ) → opens_array text ≡ true → closes_array text ≡ false → read text ≡ None
+pub read-unclosed : (text : List ℕ) → opens_with 91 text ≡ true → closes_array text ≡ false → read text ≡ None
 read-unclosed text opens unclosed = unread text (value 127 (tokens text)) refl opens (λ s. let clash : true ≡ false = sym (closes_array-ClosesAt text s) ∙ unclosed in cc)

@@ -14,10 +14,10 @@ large_format unit = record { unit = unit; most_bytes = 4294967295; most_elements
 abbrev pub is_blank : ℕ → Bool
 is_blank b = b == 32 || b == 9 || b == 10 || b == 13
 
--- the first byte that is no blank is an opening bracket
-abbrev pub opens_array : List ℕ → Bool
-opens_array [] = false
-opens_array (b ∷ text) = if is_blank b then opens_array text else b == 91
+-- the first byte that is no blank is this one
+abbrev pub opens_with : ℕ → List ℕ → Bool
+opens_with mark [] = false
+opens_with mark (b ∷ text) = if is_blank b then opens_with mark text else b == mark
 
 abbrev pub without_trailing_blanks : List ℕ → List ℕ
 without_trailing_blanks text = take (length text - suffix_len is_blank text) text
@@ -32,7 +32,7 @@ cut_text text = without_trailing_blanks (without_trailing_comma (without_trailin
 
 -- the texts that are tried in turn: an array may lack its closing bracket, and may have a comma after its last element or after the bracket
 abbrev pub candidates : List ℕ → List (List ℕ)
-candidates text = text ∷ (if opens_array text then cut_text text ∷ (cut_text text ++ 93 ∷ []) ∷ [] else [])
+candidates text = text ∷ (if opens_with 91 text then cut_text text ∷ (cut_text text ++ 93 ∷ []) ∷ [] else [])
 
 -- the value of the first text that reads
 abbrev pub first_read : List (List ℕ) → Option Data

@@ -1,16 +1,11 @@
 -- Parts of a text that are read side by side; for private clauses.
-use Rattle.std.specs.Prelude.{◌≡◌, ⊤, ℕ, ◌==◌, List, [], ◌∷◌, ◌++◌, map, Bool, true, false, if◌then◌else◌}
+use Rattle.std.specs.Prelude.{◌≡◌, ⊤, ℕ, List, [], ◌∷◌, ◌++◌, map, true}
 use Rattle.json.specs.{Lex.tokens, Token.Token}
-use Rattle.span_read.specs.{Item, Unit, Document.is_blank, Element.item_of_data, Tokens.ItemsSoFar}
-
--- the first byte that is no blank is an opening brace
-abbrev pub opens_object : List ℕ → Bool
-opens_object [] = false
-opens_object (b ∷ text) = if is_blank b then opens_object text else b == 123
+use Rattle.span_read.specs.{Item, Unit, Document.opens_with, Element.item_of_data, Tokens.ItemsSoFar}
 
 -- a comma stands between these two texts, behind a closing brace and before an opening one
 abbrev pub IsCut : List ℕ → List ℕ → List ℕ → Type 0
-IsCut text front rest = (before : List ℕ) × (front ≡ before ++ 125 ∷ []) × (text ≡ front ++ 44 ∷ rest) × (opens_object rest ≡ true)
+IsCut text front rest = (before : List ℕ) × (front ≡ before ++ 125 ∷ []) × (text ≡ front ++ 44 ∷ rest) × (opens_with 123 rest ≡ true)
 
 -- none of the tokens is a fault
 abbrev pub AreGood : List Token → Type 0

@@ -2,9 +2,10 @@
 ghost use Rattle.std.specs.Prelude.{◌≡◌, ◌≢◌, ◌<◌, ◌↔◌, length, IfOk, IfErr, Ok, Err, All};
 ghost use Rattle.span_read.specs.{IsGoodItem, Microseconds, Document.{doc, format_of}, Time.IsItemInRange, declared.error.ReadError.TheVariants.{TooLarge, Memory}};
 
-use crate::candidates::read_first;
+use crate::candidates::{TextReader, read_first};
 use crate::error::ReadError;
 use crate::format::Format;
+use crate::in_one::InOne;
 use span_event::{Items, Unit};
 use std::alloc::Global;
 use std::str;
@@ -37,11 +38,28 @@ pub fn read_items_in(alloc: Global, format: Format, bytes: &[u8]) -> Result<Item
     ensures in_range { IfOk result (All (IsItemInRange format.unit)) }
     ensures too_large { (result ≡ Err TooLarge) ↔ (format.most_bytes < length bytes.now) }
 {
+    read_bytes(&InOne, alloc, format, bytes)
+}
+
+/// The same, by a way to read texts.
+pub(crate) fn read_bytes<T: TextReader>(
+    reader: &T,
+    alloc: Global,
+    format: Format,
+    bytes: &[u8],
+) -> Result<Items, ReadError>
+    requires { T.is_ready }
+    ensures items { IfOk result (λ items. doc format bytes.now ≡ Ok items) }
+    ensures refused { IfErr result (λ error. error ≢ Memory → doc format bytes.now ≡ Err error) }
+    ensures good { IfOk result (All IsGoodItem) }
+    ensures in_range { IfOk result (All (IsItemInRange format.unit)) }
+    ensures too_large { (result ≡ Err TooLarge) ↔ (format.most_bytes < length bytes.now) }
+{
     if bytes.len() > format.most_bytes as usize {
         return Err(ReadError::TooLarge);
     }
     match str::from_utf8(bytes) {
-        Ok(text) => read_first(alloc, format, text),
+        Ok(text) => read_first(reader, alloc, format, text),
         Err(_) => Err(ReadError::NotJson),
     }
 }

@@ -3,6 +3,7 @@
 
 mod arg_map;
 mod candidates;
+mod cuts;
 mod divided;
 mod document;
 mod element;
@@ -11,8 +12,11 @@ mod error;
 mod fields;
 mod file;
 mod format;
+mod in_one;
 pub mod laws;
+mod parts;
 mod phase;
+mod reading;
 mod recent;
 mod token_fields;
 mod tokens;
@@ -22,6 +26,7 @@ pub use element::item_of;
 pub use error::ReadError;
 pub use file::{read_items, read_items_in};
 pub use format::Format;
+pub use reading::{Reading, read_items_in_parts};
 pub use span_event::{
     ArgValue, Args, BoxedId, Event, Fault, Field, IdKey, Item, ItemFault, Items, Phase, Reach,
     Text, Unit, merge_args,

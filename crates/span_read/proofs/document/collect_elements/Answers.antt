@@ -1,7 +1,7 @@
-use Rattle.std.proofs.Common.{◌≡◌, ◌-◌, ◌<◌, ◌++◌, ◌∷◌, [], List, Option, Some, None, map, refl, sym, ap, ◌∙◌, subst, subst₂, arith}
-use Rattle.json.specs.{Lex.tokens, Token.Token}
+use Rattle.std.proofs.Common.{◌≡◌, ◌-◌, ◌++◌, List, Option, Some, None, map, refl, sym, ap, ◌∙◌, subst₂, arith}
+use Rattle.json.specs.{Lex.tokens}
 use Rattle.serde_json.specs.Data.{Data}
-use Rattle.span_read.specs.{Divided.{left_of, left_with}, Document.doc_of_elements, Element.item_of_data, Elements.{Adds, TakesUpTo}, Ending.ended, Parts.AreElements, Tokens.{TakesArray, TakesElements}, declared.{divided.Middle.Middle, elements.End.{End, TheVariants.{Bracket, Text}}}}
+use Rattle.span_read.specs.{Divided.{left_of, left_with}, Document.doc_of_elements, Element.item_of_data, Elements.{Adds}, Ending.ended, Parts.AreElements, Tokens.{TakesElements}, declared.{divided.Middle.Middle, elements.End.{End, TheVariants.{Bracket, Text}}}}
 use Rattle.span_read.proofs.{Bracket.Turns.TakesElements-up_to, Collected.{Adds-both, doc_of_elements-collected}, Grammar.data_at-too_deep_array, Middles.{TakesUpTo-joined, left_with-array, left_with-whole}}
 use Rattle.span_read.proofs.document.collect_elements.Goals as goal
 
