@@ -24,6 +24,7 @@ fn settings() -> Settings {
         limit: 1000,
         seal: false,
         strict: false,
+        alone: true,
     }
 }
 

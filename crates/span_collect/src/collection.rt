@@ -4,6 +4,7 @@ ghost use Rattle.span_collect.specs.{Collection.{AreNoneOrTooMany, IsClosed, IsR
 
 use crate::files::{FileEnd, Input};
 use crate::gate::Gate;
+use crate::parts::parts_of;
 use crate::queries::Asked;
 use crate::sealing::{Sealing, seal_open_spans};
 use crate::settings::Settings;
@@ -12,6 +13,7 @@ use span_event::Fault;
 use span_journal::Query;
 use span_ledger::Ledger;
 use span_names::HashKeys;
+use span_read::Reading;
 use span_share::Share;
 use std::alloc::{AllocError, Global};
 use std::random::RandomSource;
@@ -117,13 +119,16 @@ fn collect_unsettled<G: Gate, R: Threads + Wait + RandomSource + Sync>(
         format,
         limit,
         strict,
+        alone,
         ..
     } = settings;
     let (share, mut main) = Share::start_with_keys(alloc, limit, strict, HashKeys::random(rt))?;
     let ends = Vec::with_capacity(alloc, files.len())?;
     let seats = enrol_all(rt, alloc, &share, &mut main, files.len())?;
+    let parts = if alone { parts_of(rt, files) } else { 1 };
+    let reading = Reading { format, parts };
     let (asked, main, files) = run_workers(
-        rt, alloc, &share, gate, format, files, asks, seats, main, ends,
+        rt, alloc, &share, gate, reading, files, asks, seats, main, ends,
     );
     let (ledger, _) = share.close(rt, main);
     Ok(Outcome {

@@ -5,6 +5,7 @@ mod collection;
 mod faults;
 mod files;
 mod gate;
+mod parts;
 mod queries;
 mod reading_places;
 pub mod refusals;

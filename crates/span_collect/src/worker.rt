@@ -4,34 +4,40 @@ ghost use Rattle.span_collect.specs.{doc, IsGoodItem, Work.{IsNewSeat, IsWorked}
 
 use crate::files::{FileEnd, Input};
 use crate::gate::Gate;
+use crate::parts::parts_for;
 use crate::reading_places::ReadingPlaces;
 use crate::remaining::Remaining;
 use span_event::{Item, Items};
 use span_journal::Cause;
-use span_read::{Format, ReadError, read_items_in};
+use span_read::{ReadError, Reading, read_items_in_parts};
 use span_share::{Seat, Share};
 use std::alloc::Global;
 use std::sync::Wait;
+use std::thread::Threads;
 
 // Reads the file outside the turn, and tells its items.
-pub(crate) fn work<G: Gate, R: Wait>(
+pub(crate) fn work<G: Gate, R: Threads + Wait + Sync>(
     rt: &R,
     alloc: Global,
     share: &Share,
     gate: &G,
     places: &ReadingPlaces,
     worker: u32,
-    format: Format,
+    reading: Reading,
     file: &Input,
     seat: &mut Seat,
 ) -> FileEnd
     requires { IsNewSeat share.now seat.old }
-    ensures { IsWorked share.now (doc format file.now.bytes.items) result seat.new }
+    ensures { IsWorked share.now (doc reading.format file.now.bytes.items) result seat.new }
 {
     let caller = seat.number();
     gate.read(worker);
     let place = places.take(rt, worker);
-    let read = read_items_in(alloc, format, &file.bytes);
+    let own = Reading {
+        parts: parts_for(reading.parts, file),
+        ..reading
+    };
+    let read = read_items_in_parts(rt, alloc, own, &file.bytes);
     drop(place);
     match read {
         Ok(items) => tell_all(rt, alloc, share, gate, worker, items, seat),

@@ -8,7 +8,7 @@ use crate::queries::{Asked, ask_all};
 use crate::reading_places::{PLACES, ReadingPlaces};
 use crate::worker::work;
 use span_journal::Query;
-use span_read::Format;
+use span_read::{Format, Reading};
 use span_share::{Seat, Share};
 use std::alloc::{AllocError, Global};
 use std::snapshot::Snapshot;
@@ -24,7 +24,7 @@ const BYTES_OF_ENTRY: usize = 192;
 struct Workplace<'s, G> {
     gate: &'s G,
     places: &'s ReadingPlaces,
-    format: Format,
+    reading: Reading,
     workers: u32,
     // For how many entries room is made.
     expected: u32,
@@ -64,7 +64,7 @@ pub(crate) fn enrol_all<R: Wait>(
 }
 
 // Starts the worker of one file. None where it has no seat, or no thread could be made.
-fn start_worker<'s, E, G: Gate, R: Wait + Sync>(
+fn start_worker<'s, E, G: Gate, R: Threads + Wait + Sync>(
     rt: &'s R,
     alloc: Global,
     scope: &Scope<'s, E>,
@@ -75,16 +75,16 @@ fn start_worker<'s, E, G: Gate, R: Wait + Sync>(
     seat: Option<Seat>,
 ) -> Option<PromisedHandle<(FileEnd, Seat), Worked>>
     requires { IfSome seat (IsNewSeat share.now) }
-    ensures format { IfSome result (λ handle. handle.promise.format ≡ workplace.now.format) }
+    ensures format { IfSome result (λ handle. handle.promise.format ≡ workplace.now.reading.format) }
     ensures share { IfSome result (λ handle. handle.promise.share.value ≡ share.now) }
     ensures file { IfSome result (λ handle. handle.promise.file.value ≡ file.now) }
 {
     let seat = seat?;
     let gate = workplace.gate;
     let places = workplace.places;
-    let format = workplace.format;
+    let reading = workplace.reading;
     let promise = Worked {
-        format,
+        format: reading.format,
         share: Snapshot::of(share),
         file: Snapshot::of(file),
     };
@@ -94,11 +94,11 @@ fn start_worker<'s, E, G: Gate, R: Wait + Sync>(
             move ||
                 requires { IsNewSeat share.now seat }
                 ensures { IsWorked share.entry.now
-                    (doc format file.entry.now.bytes.items) result.0 result.1 }
+                    (doc reading.format file.entry.now.bytes.items) result.0 result.1 }
             {
                 let mut seat = seat;
                 let end = work(
-                    rt, alloc, share, gate, places, worker, format, file, &mut seat,
+                    rt, alloc, share, gate, places, worker, reading, file, &mut seat,
                 );
                 (end, seat)
             },
@@ -113,7 +113,7 @@ enum Worker {
 }
 
 // Where no query is asked, the calling thread has nothing to do beside, so it is the first file's worker.
-fn worker_of<'s, E, G: Gate, R: Wait + Sync>(
+fn worker_of<'s, E, G: Gate, R: Threads + Wait + Sync>(
     rt: &'s R,
     alloc: Global,
     scope: &Scope<'s, E>,
@@ -125,7 +125,7 @@ fn worker_of<'s, E, G: Gate, R: Wait + Sync>(
     seat: Option<Seat>,
 ) -> Worker
     requires { IfSome seat (IsNewSeat share.now) }
-    ensures { IsWorkerOf workplace.now.format share.now file.now result }
+    ensures { IsWorkerOf workplace.now.reading.format share.now file.now result }
 {
     if place == 0 && asks.is_empty() {
         return Worker::Here(seat);
@@ -134,7 +134,7 @@ fn worker_of<'s, E, G: Gate, R: Wait + Sync>(
 }
 
 // How a worker's file ended, and its seat, if it has one.
-fn finish<G: Gate, R: Threads + Wait>(
+fn finish<G: Gate, R: Threads + Wait + Sync>(
     rt: &R,
     alloc: Global,
     share: &Share,
@@ -143,17 +143,17 @@ fn finish<G: Gate, R: Threads + Wait>(
     file: &Input,
     worker: Worker,
 ) -> Option<(FileEnd, Seat)>
-    requires { IsWorkerOf workplace.now.format share.now file.now worker }
+    requires { IsWorkerOf workplace.now.reading.format share.now file.now worker }
     ensures { IfSome result (λ worked.
-        IsWorked share.now (doc workplace.now.format file.now.bytes.items) worked.0 worked.1) }
+        IsWorked share.now (doc workplace.now.reading.format file.now.bytes.items) worked.0 worked.1) }
 {
     match worker {
         Worker::Thread(handle) => Some(handle?.join(rt)),
         Worker::Here(seat) => {
             let mut seat = seat?;
-            let (gate, places, format) = (workplace.gate, workplace.places, workplace.format);
+            let (gate, places, reading) = (workplace.gate, workplace.places, workplace.reading);
             let end = work(
-                rt, alloc, share, gate, places, place, format, file, &mut seat,
+                rt, alloc, share, gate, places, place, reading, file, &mut seat,
             );
             Some((end, seat))
         }
@@ -175,7 +175,7 @@ fn work_all<'s, E, G: Gate, R: Threads + Wait + Sync>(
     ends: &mut Vec<FileEnd>,
 ) -> Asked
     requires { IsReadyToWork share.now files.now seats.old.items main.old ends.old }
-    ensures met { HasMet workplace.now.format share.now files.now asks.now
+    ensures met { HasMet workplace.now.reading.format share.now files.now asks.now
         ends.new.items result main.new }
     ensures room { vec_capacity ends.new ≡ vec_capacity ends.old }
 {
@@ -228,7 +228,7 @@ pub(crate) fn run_workers<G: Gate, R: Threads + Wait + Sync>(
     alloc: Global,
     share: &Share,
     gate: &G,
-    format: Format,
+    reading: Reading,
     files: &[Input],
     asks: &[Query],
     seats: Vec<Option<Seat>>,
@@ -236,16 +236,16 @@ pub(crate) fn run_workers<G: Gate, R: Threads + Wait + Sync>(
     ends: Vec<FileEnd>,
 ) -> (Asked, Seat, Vec<FileEnd>)
     requires { IsReadyToWork share.now files.now seats.items main ends }
-    ensures { HasMet format share.now files.now asks.now result.2.items result.0 result.1 }
+    ensures { HasMet reading.format share.now files.now asks.now result.2.items result.0 result.1 }
 {
     let places = ReadingPlaces::new();
-    let reading = &places;
+    let shared = &places;
     thread::scope(
         thread::scope_env(),
         rt,
         move |scope|
             requires { IsReadyToWork share.now files.now seats.items main ends }
-            ensures { HasMet format share.entry.now files.entry.now asks.entry.now
+            ensures { HasMet reading.format share.entry.now files.entry.now asks.entry.now
                 result.2.items result.0 result.1 }
         {
             let mut seats = seats;
@@ -253,8 +253,8 @@ pub(crate) fn run_workers<G: Gate, R: Threads + Wait + Sync>(
             let mut ends = ends;
             let workplace = Workplace {
                 gate,
-                places: reading,
-                format,
+                places: shared,
+                reading,
                 workers: files.len() as u32,
                 expected: entries_expected(files),
             };

@@ -16,13 +16,14 @@ use steps::{FREE, Steps};
 
 const ASKS: [Query; 2] = [Query::Counts, Query::Counts];
 
-// A journal of so many entries, and nothing sealed.
+// A journal of so many entries, and nothing sealed, by a collection with no other beside it.
 const fn up_to(limit: u32) -> Settings {
     Settings {
         format: Format::of(Unit::Microseconds),
         limit,
         seal: false,
         strict: false,
+        alone: true,
     }
 }
 

@@ -47,6 +47,14 @@ const ORDERS: [(Order, Option<u32>); 5] = [
     (ASKING_AHEAD, Some(0)),
 ];
 
+// As `up_to`, where each file is read by its worker alone.
+const fn by_workers(limit: u32) -> Settings {
+    Settings {
+        alone: false,
+        ..up_to(limit)
+    }
+}
+
 // Each file was read under the number of its place, and both queries were asked.
 fn is_whole(rt: &impl Abort, outcome: &Outcome, first: Option<u32>) {
     let ends = [1, 2].map(|caller| FileEnd::Read { caller, items: 2 });
@@ -121,10 +129,10 @@ fn have_report(
 
 #[test]
 fn separate_files_have_one_report_in_each_order(rt: HostRuntime) -> Result<(), Fail> {
-    let mut sealed = up_to(100);
+    let mut sealed = by_workers(100);
     sealed.seal = true;
     for order in &ORDERS {
-        have_report(&rt, &CLOSED, &up_to(100), order, CLOSED_REPORT)?;
+        have_report(&rt, &CLOSED, &by_workers(100), order, CLOSED_REPORT)?;
         have_report(&rt, &CLOSED, &sealed, order, CLOSED_REPORT)?;
         have_report(&rt, &CUT, &sealed, order, CUT_REPORT)?;
     }
@@ -143,7 +151,7 @@ fn other_files_have_the_report_of_their_order(rt: HostRuntime) -> Result<(), Fai
         let wanted = format!(in rt.alloc();
             "tracebook 1\nevents 2 refused 0 skipped 2 queries 2\nprocess 1 -\ncounter 1 \"m\" - \"k\" samples 2 least 1 greatest 2 last {last}\n"
         )?;
-        have_report(&rt, &SAMPLES, &up_to(100), order, wanted.as_str())?;
+        have_report(&rt, &SAMPLES, &by_workers(100), order, wanted.as_str())?;
     }
     Ok(())
 }

@@ -24,9 +24,9 @@ returns-clause-met g t c =
     let split = c.in-Some.ensures.cases.0 in
     elim c.match-finish.branch [
       | in-Some-finish w ↦
-          rw (w.main-is, c.push_reserved.ensures.items, w.end-is, split) (HasMet-joined c.args.workplace.now.format share others asks ends asked main met file w.in-Some-finish.end w.in-Some-finish.seat w.meet.new.seat w.in-Some-finish.ensures w.meet.ensures.seat w.meet.ensures.gathered)
+          rw (w.main-is, c.push_reserved.ensures.items, w.end-is, split) (HasMet-joined c.args.workplace.now.reading.format share others asks ends asked main met file w.in-Some-finish.end w.in-Some-finish.seat w.meet.new.seat w.in-Some-finish.ensures w.meet.ensures.seat w.meet.ensures.gathered)
       | in-None w ↦
-          rw (w.main-is, c.push_reserved.ensures.items, w.end-is, split) (HasMet-not_started c.args.workplace.now.format share others asks ends asked main met file)
+          rw (w.main-is, c.push_reserved.ensures.items, w.end-is, split) (HasMet-not_started c.args.workplace.now.reading.format share others asks ends asked main met file)
     ]
 
 no_files : (files : List Input) → length files ≡ 0 → files ≡ []
@@ -36,4 +36,4 @@ no_files (file ∷ files) none = absurd (omega arith)
 -- the main seat has met nobody yet, and asks
 pub returns-in_default-clause-met : goal.returns-in_default-clause-met
 returns-in_default-clause-met g t c =
-    rw (no_files c.args.files.now c.in_default.ensures.cases, c.requires.none) (c.ask_all.ensures c.args.workplace.now.format)
+    rw (no_files c.args.files.now c.in_default.ensures.cases, c.requires.none) (c.ask_all.ensures c.args.workplace.now.reading.format)
