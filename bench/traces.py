@@ -8,6 +8,8 @@ BENCH_READING = os.path.join(CRATES, "bench_reading", "out", "bench_reading")
 TRACEBOOK = os.path.join(CRATES, "..", "tracebook")
 END = '],"beginningOfTime":1}'
 TURNS = 3
+# What lets a command have the first processor alone.
+ON_ONE_PROCESSOR = ["taskset", "-c", str(min(os.sched_getaffinity(0)))]
 # A file of the largest size that is read, but for a little.
 LARGEST = 67_108_000
 
