@@ -3,8 +3,8 @@
 
 use span_tasks::{
     AskedNumbers, Audience, Column, Files, Items, LinesTo, Named, Narrowing, Number, Of, Place,
-    Request, Session, Shown, TableForm, TableOptions, TableText, Tabulation, Task, Text, Unwatched,
-    Writer, default_settings,
+    Request, Session, Settings, Shown, TableForm, TableOptions, TableText, Tabulation, Task, Text,
+    Unwatched, Writer, default_settings,
 };
 use std::alloc::{AllocError, Global};
 use std::process::ExitCode;
@@ -12,6 +12,11 @@ use std::{env, io};
 
 fn request_of(alloc: Global, given: Vec<Text>) -> Result<Request, AllocError> {
     let (only, skip) = (Vec::new(alloc), Vec::new(alloc));
+    // The files are collected beside each other, so none of them has all processors.
+    let settings = Settings {
+        alone: false,
+        ..default_settings()
+    };
     let options = TableOptions {
         of: Of::Spans,
         columns: Vec::from_array(alloc, [Column::Name])?,
@@ -27,7 +32,7 @@ fn request_of(alloc: Global, given: Vec<Text>) -> Result<Request, AllocError> {
         shown: Shown { only, skip },
     };
     let task = Task::Tabulate(Tabulation {
-        items: Items::Apart(default_settings()),
+        items: Items::Apart(settings),
         jobs: None,
         options,
         text: TableText::Table(TableForm::Ranking { most: 10 }),

@@ -53,7 +53,7 @@ no_table : (words : List Bytes) (options : Options) → HasOnlyFiles words optio
 no_table words options only = rw (only.by, only.numbers, only.of, only.group_by, only.conditions, only.merge_templates, only.only, only.skip, only.apart, only.add, only.top, only.json, only.base) refl
 
 default : (words : List Bytes) (options : Options) → HasOnlyFiles words options → settings_of options ≡ default_settings
-default words options only = rw (only.nanoseconds, only.large, only.limit, only.seal, only.strict) refl
+default words options only = rw (only.nanoseconds, only.large, only.limit, only.seal, only.strict, only.apart, only.repeats) refl
 
 -- what options that only name files ask for is their report
 of_options : (words : List Bytes) (options : Options) → list_all is_plain words ≡ true → HasOnlyFiles words options → (request : Request) → IsOf options request → IsReport words request

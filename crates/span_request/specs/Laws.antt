@@ -28,7 +28,7 @@ AddedTablesMayShowThem = (options : Options) (asked : Asked) (table : TableOptio
 
 -- the settings where the command line doesn't say
 abbrev pub default_settings : Settings
-default_settings = record { format = format_of Microseconds; limit = default_limit; seal = false; strict = false }
+default_settings = record { format = format_of Microseconds; limit = default_limit; seal = false; strict = false; alone = true }
 
 -- the report of the files of these names, collected as one run with the default settings, without warnings
 abbrev pub IsReport : List Bytes → Request → Type 0

@@ -1,5 +1,5 @@
 -- The task that the options ask for, of such a table.
-use Rattle.std.specs.{Prelude.{◌≡◌, ◌&&◌, ◌||◌, if◌then◌else◌, ℕ, Bool, true, false, List, [], ◌∷◌, Option, Some, None, filter_map, is_some, map, unwrap_or}, Option.option_map_or}
+use Rattle.std.specs.{Prelude.{◌≡◌, ◌&&◌, ◌||◌, if◌then◌else◌, ℕ, Bool, not, true, false, List, [], ◌∷◌, Option, Some, None, filter_map, is_some, map, unwrap_or}, Option.option_map_or}
 use Rattle.span_request.specs.{Argument, Column, Format, Microseconds, Name, Named, Nanoseconds, Narrowing, Options, Settings, SpanColumn, Unit, AskedNumbers, format_of, large_format, names_of, Asked.Asked, Numbers.by_of, Rules.takes_apart, Texts.{are_given, audience_of, most_rows, prints_table}}
 use Rattle.span_request.specs.declared.tasks.{Items.{Items, TheVariants.{Apart, Printed, Together}}, TableText.{TableText, TheVariants.{Changes, Repetitions, Table}}, Task.{Task, TheVariants.{Collect, Pages, Stacks, Tabulate}}}
 use Rattle.span_request.specs.declared.views.{ComparisonForm.ComparisonForm, PageView.PageView, RepeatsForm.RepeatsForm, TableForm.{TableForm, TheVariants.{Json, Ranking}}, TableOptions.TableOptions, View.{View, TheVariants.{Folded, Page, Refusals, Report}}}
@@ -20,6 +20,7 @@ settings_of options = record {
   limit = unwrap_or options.limit (if options.large then 4294967295 else default_limit);
   seal = options.seal;
   strict = options.strict;
+  alone = not (takes_apart options);
 }
 
 -- how a table is narrowed

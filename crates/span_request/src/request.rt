@@ -27,6 +27,7 @@ pub fn default_settings() -> Settings
         limit: DEFAULT_LIMIT,
         seal: false,
         strict: false,
+        alone: true,
     }
 }
 
@@ -124,6 +125,7 @@ fn settings_of(options: &Options) -> Settings
         limit: options.limit.unwrap_or(most),
         seal: options.seal,
         strict: options.strict,
+        alone: !takes_apart(options),
     }
 }
 
