@@ -1,5 +1,7 @@
 //! What no text of a trace shows: the item of a value, the copy of an event, and other bounds. The rest is shown by cases of `example_ledger`, by those
 //! of the program, and by tests/many_files.
+mod parts;
+
 use serde_json::Value;
 use span_read::{Event, Format, Item, Unit, item_of, read_items_in};
 use std::alloc::{AllocError, AllocGlobal, Global};
