@@ -1,13 +1,14 @@
 //! Reads a trace from standard input and counts its items by kind: a program to be timed.
-//! With the word `json` the text is only parsed.
+//! With the word `json` the text is only parsed. With the word `parts` it is read in a part for each processor that the system grants.
 #![tactic(auto)]
 
 use serde_json::Value;
 use span_event::{Item, Items};
-use span_read::{ReadError, read_items};
+use span_read::{Format, ReadError, Reading, Unit, read_items, read_items_in_parts};
 use std::alloc::Global;
 use std::io::{self, Read};
-use std::{env, str};
+use std::thread::Threads;
+use std::{env, str, thread};
 
 // How many items are good events, faults, and other events.
 fn counts(items: Items) -> (u64, u64, u64) {
@@ -41,6 +42,17 @@ fn print_counts(rt: &impl Print, read: Result<Items, ReadError>) -> io::Result<(
     }
 }
 
+fn in_parts<R: Threads>(rt: &R) -> Reading {
+    let parts = match thread::available_parallelism(rt) {
+        Ok(count) => count.get().min(64) as u32,
+        Err(_) => 1,
+    };
+    Reading {
+        format: Format::of(Unit::Microseconds),
+        parts,
+    }
+}
+
 fn main(rt: HostRuntime) -> io::Result<()> {
     let alloc = rt.alloc();
     let mut bytes = Vec::new(alloc);
@@ -49,6 +61,11 @@ fn main(rt: HostRuntime) -> io::Result<()> {
     if only_parses {
         let is_json = is_json(alloc, &bytes);
         return println!(rt; "json {is_json}");
+    }
+    let parted = env::args(&rt)?.any(|word| word.as_str() == "parts");
+    if parted {
+        let reading = in_parts(&rt);
+        return print_counts(&rt, read_items_in_parts(&rt, alloc, reading, &bytes));
     }
     print_counts(&rt, read_items(alloc, &bytes))
 }
