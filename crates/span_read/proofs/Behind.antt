@@ -10,16 +10,8 @@ use Rattle.json.specs.Json as json
 
 goes_on-behind : (ts us : List Token) → 0 < length ts → after_end_array ts ≡ None → after_end_array (ts ++ us) ≡ None
 goes_on-behind [] us some e = absurd (omega arith)
-goes_on-behind (begin_object ∷ ts) us some e = refl
-goes_on-behind (end_object ∷ ts) us some e = refl
-goes_on-behind (begin_array ∷ ts) us some e = refl
 goes_on-behind (end_array ∷ ts) us some e = absurd (cc)
-goes_on-behind (key s ∷ ts) us some e = refl
-goes_on-behind (string s ∷ ts) us some e = refl
-goes_on-behind (number s ∷ ts) us some e = refl
-goes_on-behind (boolean b ∷ ts) us some e = refl
-goes_on-behind (null ∷ ts) us some e = refl
-goes_on-behind (bad ∷ ts) us some e = refl
+goes_on-behind (t ∷ ts) us some e = refl
 
 key_read : (k : Option (List ℕ)) (r : List Token) → read_key (key_token k ∷ r) ≡ Some (k, r)
 key_read None r = refl

@@ -1,7 +1,7 @@
 -- What is read of a text that is cut at commas between its elements.
 use Rattle.std.proofs.Common.{◌≡◌, ◌≢◌, ℕ, List, [], ◌∷◌, ◌++◌, length, Bool, true, false, Option, Some, None, Err, map, option_and_then, append_assoc, if◌then◌else◌, refl, sym, ap, ap₂, ◌∙◌, subst, arith}
 use Rattle.std.proofs.lemmas.List.{map-append}
-use Rattle.json.specs.{Json.{Json, value, if_last}, Lex.tokens, Token.{Token, begin_object, end_object, begin_array, end_array, key, string, number, boolean, null, bad}}
+use Rattle.json.specs.{Json.{Json, value, if_last}, Lex.tokens, Token.{Token, bad}}
 use Rattle.serde_json.specs.{Data.Data, Read.{of_json, read}}
 use Rattle.json.proofs.Grammar.{left}
 use Rattle.span_read.specs.{Item, Unit, Document.doc_of_document, Element.item_of_data, Elements.{Adds, AreCollected, ReadsSoFar}, Ending.{ended, with_bracket}, Parts.{AreElements, AreGood, IsCut}, Tokens.{data_of_all, ItemsSoFar}, declared.{elements.Elements.Elements, error.ReadError.TheVariants.NotJson, format.Format.Format}}
@@ -41,16 +41,8 @@ AreElements-read format depth text start e none few all s =
 
 AreGood-bracket : (ts : List Token) → AreGood (with_bracket ts) → AreGood ts
 AreGood-bracket [] good = tt
-AreGood-bracket (begin_object ∷ ts) good = AreGood-bracket ts good
-AreGood-bracket (end_object ∷ ts) good = AreGood-bracket ts good
-AreGood-bracket (begin_array ∷ ts) good = AreGood-bracket ts good
-AreGood-bracket (end_array ∷ ts) good = AreGood-bracket ts good
-AreGood-bracket (key s ∷ ts) good = AreGood-bracket ts good
-AreGood-bracket (string s ∷ ts) good = AreGood-bracket ts good
-AreGood-bracket (number s ∷ ts) good = AreGood-bracket ts good
-AreGood-bracket (boolean b ∷ ts) good = AreGood-bracket ts good
-AreGood-bracket (null ∷ ts) good = AreGood-bracket ts good
 AreGood-bracket (bad ∷ ts) good = absurd good
+AreGood-bracket (t ∷ ts) good = AreGood-bracket ts good
 
 AreGood-ended : (bracket : Bool) (ts : List Token) → AreGood (ended bracket ts) → AreGood ts
 AreGood-ended true ts good = AreGood-bracket ts good

@@ -7,16 +7,8 @@ use Rattle.json.specs.Json as json
 
 pub AreGood-append : (ts us : List Token) → AreGood ts → AreGood us → AreGood (ts ++ us)
 AreGood-append [] us good more = more
-AreGood-append (begin_object ∷ ts) us good more = AreGood-append ts us good more
-AreGood-append (end_object ∷ ts) us good more = AreGood-append ts us good more
-AreGood-append (begin_array ∷ ts) us good more = AreGood-append ts us good more
-AreGood-append (end_array ∷ ts) us good more = AreGood-append ts us good more
-AreGood-append (key s ∷ ts) us good more = AreGood-append ts us good more
-AreGood-append (string s ∷ ts) us good more = AreGood-append ts us good more
-AreGood-append (number s ∷ ts) us good more = AreGood-append ts us good more
-AreGood-append (boolean b ∷ ts) us good more = AreGood-append ts us good more
-AreGood-append (null ∷ ts) us good more = AreGood-append ts us good more
 AreGood-append (bad ∷ ts) us good more = absurd good
+AreGood-append (t ∷ ts) us good more = AreGood-append ts us good more
 
 -- ---- what a call leaves is the end of what it was given, behind tokens without a fault
 

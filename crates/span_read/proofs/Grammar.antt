@@ -75,6 +75,12 @@ without_member k j old e None = refl
 without_member k j old e (Some p) = rw e
 
 module _ (p : Parse json.Json) where
+  -- no item begins where nothing is left
+  pub items-nothing : p [] ≡ None → (m : ℕ) → items p m [] ≡ None
+  unfolding items
+  items-nothing nothing zero = refl
+  items-nothing nothing (suc m) = ap (option_and_then (λ q. parse_map (json.item q.0) (items p m q.1))) nothing
+
   pub item_read : (n : ℕ) (ts r : List Token) (d : Data) → 0 < n → after_end_array ts ≡ None → converted of_json (p ts) ≡ Some (d, r)
       → converted of_items (items p n ts) ≡ parse_map (item d) (converted of_items (items p (n - 1) r))
   item_read n ts r d some going e = let j = converted_some of_json (p ts) d r e in ap (converted of_items) (items_more p n ts r j.0 some going j.1) ∙ with_item j.0 d j.2 _

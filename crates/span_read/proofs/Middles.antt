@@ -1,40 +1,24 @@
 -- What is read of a text whose middle was read before.
 use Rattle.std.proofs.Common.{◌≡◌, ℕ, zero, suc, ◌<◌, ◌≤◌, List, [], ◌∷◌, ◌++◌, length, Bool, true, false, Option, Some, None, option_and_then, append_assoc, refl, sym, ap, ◌∙◌, subst, arith}
-use Rattle.json.specs.{Json.{Parse, parse_map, after_end_array, read_key, items_step, items, value}, Lex.tokens, Token.{Token, begin_object, end_object, begin_array, end_array, key, string, number, boolean, null, bad}}
-use Rattle.json.proofs.Grammar.{left, Takes, skip_value-shorter}
+use Rattle.json.specs.{Json.{Parse, parse_map, after_end_array, read_key, items_step, items, value}, Lex.tokens, Token.{Token, begin_array, end_array, bad}}
+use Rattle.json.proofs.Grammar.{left, Takes, skip_value-shorter, value_is}
 use Rattle.serde_json.specs.{Data.{Data, array, Items, no_items, item}, Read.{of_items, converted}}
 use Rattle.span_read.specs.{Divided.left_with, Elements.{ReadsSoFar, TakesUpTo}, Ending.{with_bracket, ended}, Parts.AreGood, Tokens.{TakesArray, TakesValue, items_before, ItemsSoFar}, declared.{divided.Middle.Middle, elements.End.{End, TheVariants.{Bracket, Text}}}}
-use Rattle.span_read.proofs.{Behind.{data_at-behind, read_key-behind}, Ends.items_good, Grammar.{converted_some, items_over}}
+use Rattle.span_read.proofs.{Behind.{data_at-behind, read_key-behind}, Ends.items_good, Grammar.{converted_some, items-nothing, items_over}}
 use Rattle.json.specs.Json as json
 
 -- ---- faults
 
 pub AreGood-front : (ts us : List Token) → AreGood (ts ++ us) → AreGood ts
 AreGood-front [] us good = tt
-AreGood-front (begin_object ∷ ts) us good = AreGood-front ts us good
-AreGood-front (end_object ∷ ts) us good = AreGood-front ts us good
-AreGood-front (begin_array ∷ ts) us good = AreGood-front ts us good
-AreGood-front (end_array ∷ ts) us good = AreGood-front ts us good
-AreGood-front (key s ∷ ts) us good = AreGood-front ts us good
-AreGood-front (string s ∷ ts) us good = AreGood-front ts us good
-AreGood-front (number s ∷ ts) us good = AreGood-front ts us good
-AreGood-front (boolean b ∷ ts) us good = AreGood-front ts us good
-AreGood-front (null ∷ ts) us good = AreGood-front ts us good
 AreGood-front (bad ∷ ts) us good = absurd good
+AreGood-front (t ∷ ts) us good = AreGood-front ts us good
 
 -- a bracket comes behind all tokens if the first ones are without a fault
 pub with_bracket-append : (ts us : List Token) → AreGood ts → with_bracket (ts ++ us) ≡ ts ++ with_bracket us
 with_bracket-append [] us good = refl
-with_bracket-append (begin_object ∷ ts) us good = ap (λ xs. begin_object ∷ xs) (with_bracket-append ts us good)
-with_bracket-append (end_object ∷ ts) us good = ap (λ xs. end_object ∷ xs) (with_bracket-append ts us good)
-with_bracket-append (begin_array ∷ ts) us good = ap (λ xs. begin_array ∷ xs) (with_bracket-append ts us good)
-with_bracket-append (end_array ∷ ts) us good = ap (λ xs. end_array ∷ xs) (with_bracket-append ts us good)
-with_bracket-append (key s ∷ ts) us good = ap (λ xs. key s ∷ xs) (with_bracket-append ts us good)
-with_bracket-append (string s ∷ ts) us good = ap (λ xs. string s ∷ xs) (with_bracket-append ts us good)
-with_bracket-append (number s ∷ ts) us good = ap (λ xs. number s ∷ xs) (with_bracket-append ts us good)
-with_bracket-append (boolean b ∷ ts) us good = ap (λ xs. boolean b ∷ xs) (with_bracket-append ts us good)
-with_bracket-append (null ∷ ts) us good = ap (λ xs. null ∷ xs) (with_bracket-append ts us good)
 with_bracket-append (bad ∷ ts) us good = absurd good
+with_bracket-append (t ∷ ts) us good = ap (λ xs. t ∷ xs) (with_bracket-append ts us good)
 
 ended-append : (bracket : Bool) (ts us : List Token) → AreGood ts → ended bracket (ts ++ us) ≡ ts ++ ended bracket us
 ended-append true ts us good = with_bracket-append ts us good
@@ -43,11 +27,6 @@ ended-append false ts us good = refl
 -- ---- turns of a loop, one behind the other
 
 module _ (p : Parse json.Json) (takes : Takes p) (nothing : p [] ≡ None) where
-  none_of_none : (m : ℕ) → items p m [] ≡ None
-  unfolding items
-  none_of_none zero = refl
-  none_of_none (suc m) = ap (option_and_then (λ q. parse_map (json.item q.0) (items p m q.1))) nothing
-
   same_item : (n m : ℕ) (ts : List Token) (o : Option (json.Json × List Token)) → p ts ≡ o → ((s : List Token) → length s < length ts → items p n s ≡ items p m s)
       → option_and_then (λ q. parse_map (json.item q.0) (items p n q.1)) o ≡ option_and_then (λ q. parse_map (json.item q.0) (items p m q.1)) o
   same_item n m ts None e again = refl
@@ -60,11 +39,11 @@ module _ (p : Parse json.Json) (takes : Takes p) (nothing : p [] ≡ None) where
   -- turns past the count of the tokens change nothing
   items_turns : (n m : ℕ) (ts : List Token) → length ts ≤ n → length ts ≤ m → items p n ts ≡ items p m ts
   unfolding items
-  items_turns zero m [] enough too = sym (none_of_none m)
-  items_turns (suc n) zero [] enough too = none_of_none (suc n)
+  items_turns zero m [] enough too = sym (items-nothing p nothing m)
+  items_turns (suc n) zero [] enough too = items-nothing p nothing (suc n)
   items_turns zero m (t ∷ ts) enough too = absurd (omega (arith, enough))
   items_turns (suc n) zero (t ∷ ts) enough too = absurd (omega (arith, too))
-  items_turns (suc n) (suc m) [] enough too = none_of_none (suc n) ∙ sym (none_of_none (suc m))
+  items_turns (suc n) (suc m) [] enough too = items-nothing p nothing (suc n) ∙ sym (items-nothing p nothing (suc m))
   items_turns (suc n) (suc m) (t ∷ ts) enough too = same_step n m (t ∷ ts) (after_end_array (t ∷ ts)) (λ s less. items_turns n m s (omega (arith, enough, less)) (omega (arith, too, less)))
 
 before_both : (cs bs : List Data) (rest : Items) → items_before cs (items_before bs rest) ≡ items_before (cs ++ bs) rest
@@ -75,18 +54,13 @@ both_before : (cs bs : List Data) (o : Option (Items × List Token)) → parse_m
 both_before cs bs None = refl
 both_before cs bs (Some q) = ap (λ is. Some (is, q.1)) (before_both cs bs q.0)
 
-value_of_none : (depth : ℕ) → value depth [] ≡ None
-unfolding value
-value_of_none zero = refl
-value_of_none (suc d) = refl
-
 module _ (depth : ℕ) (P Q R : List Data → Type 0) (both : (cs bs : List Data) → P cs → Q bs → R (cs ++ bs)) where
   pub so_far_both : (start mid after : List Token) → ItemsSoFar depth start mid P → ItemsSoFar depth mid after Q → ItemsSoFar depth start after R
   so_far_both start mid after a b = record {
     before = a.before ++ b.before;
     turns = b.turns;
     enough = b.enough;
-    same = a.same ∙ ap (λ o. parse_map (items_before a.before) (converted of_items o)) (items_turns (value depth) (skip_value-shorter depth) (value_of_none depth) a.turns (length mid) mid a.enough (omega arith)) ∙ ap (parse_map (items_before a.before)) b.same ∙ both_before a.before b.before _;
+    same = a.same ∙ ap (λ o. parse_map (items_before a.before) (converted of_items o)) (items_turns (value depth) (skip_value-shorter depth) (value_is depth []) a.turns (length mid) mid a.enough (omega arith)) ∙ ap (parse_map (items_before a.before)) b.same ∙ both_before a.before b.before _;
     holds = both a.before b.before a.holds b.holds;
   }
 

@@ -10,16 +10,8 @@ closes_array text = slice_index (without_trailing_blanks text) (length (without_
 -- the tokens of a text with one closing bracket behind it, from those of the text; no token follows a fault
 abbrev pub with_bracket : List Token → List Token
 with_bracket [] = Token.end_array ∷ []
-with_bracket (Token.begin_object ∷ ts) = Token.begin_object ∷ with_bracket ts
-with_bracket (Token.end_object ∷ ts) = Token.end_object ∷ with_bracket ts
-with_bracket (Token.begin_array ∷ ts) = Token.begin_array ∷ with_bracket ts
-with_bracket (Token.end_array ∷ ts) = Token.end_array ∷ with_bracket ts
-with_bracket (Token.key s ∷ ts) = Token.key s ∷ with_bracket ts
-with_bracket (Token.string s ∷ ts) = Token.string s ∷ with_bracket ts
-with_bracket (Token.number s ∷ ts) = Token.number s ∷ with_bracket ts
-with_bracket (Token.boolean b ∷ ts) = Token.boolean b ∷ with_bracket ts
-with_bracket (Token.null ∷ ts) = Token.null ∷ with_bracket ts
 with_bracket (Token.bad ∷ ts) = Token.bad ∷ ts
+with_bracket (t ∷ ts) = t ∷ with_bracket ts
 
 -- the tokens of a text, with or without a closing bracket behind it
 abbrev pub ended : Bool → List Token → List Token

@@ -10,16 +10,8 @@ IsCut text front rest = (before : List ℕ) × (front ≡ before ++ 125 ∷ []) 
 -- none of the tokens is a fault
 abbrev pub AreGood : List Token → Type 0
 AreGood [] = ⊤
-AreGood (Token.begin_object ∷ ts) = AreGood ts
-AreGood (Token.end_object ∷ ts) = AreGood ts
-AreGood (Token.begin_array ∷ ts) = AreGood ts
-AreGood (Token.end_array ∷ ts) = AreGood ts
-AreGood (Token.key s ∷ ts) = AreGood ts
-AreGood (Token.string s ∷ ts) = AreGood ts
-AreGood (Token.number s ∷ ts) = AreGood ts
-AreGood (Token.boolean b ∷ ts) = AreGood ts
-AreGood (Token.null ∷ ts) = AreGood ts
 AreGood (Token.bad ∷ ts) = ⊥
+AreGood (t ∷ ts) = AreGood ts
 
 -- a text is elements of an array, which stand at this depth and are these items, whatever comes behind it
 pub record AreElements (unit : Unit) (depth : ℕ) (text : List ℕ) (items : List Item) : Type 0 where

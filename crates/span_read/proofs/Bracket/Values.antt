@@ -1,8 +1,9 @@
 -- What a value is of tokens with a closing bracket behind them.
 use Rattle.std.proofs.Common.{◌≡◌, ℕ, zero, suc, ◌<◌, ◌≤◌, List, [], ◌∷◌, length, Option, Some, None, option_map, option_and_then, refl, sym, ap, ◌∙◌, arith}
 use Rattle.json.specs.{Json.{Json, Items, item, Members, member, Parse, parse_map, after_end_array, read_key, items_step, members_step, items, members, value_with, value}, Token.{Token, begin_object, end_object, begin_array, end_array, key, string, number, boolean, null, bad}}
-use Rattle.json.proofs.Grammar.{left, left-parse_map, Takes, skip_value-shorter, read_key-shorter}
+use Rattle.json.proofs.Grammar.{left, left-parse_map, Takes, skip_value-shorter, value_is, read_key-shorter}
 use Rattle.span_read.specs.Ending.{with_bracket}
+use Rattle.span_read.proofs.Grammar.{items-nothing}
 use Rattle.json.specs.Json as json
 
 -- the same was taken, with the bracket behind what is left
@@ -40,30 +41,14 @@ after_end_array-bracket bad ts = refl
 
 read_key-bracket : (ts : List Token) → read_key (with_bracket ts) ≡ with_bracket_left (read_key ts)
 read_key-bracket [] = refl
-read_key-bracket (begin_object ∷ ts) = refl
-read_key-bracket (end_object ∷ ts) = refl
-read_key-bracket (begin_array ∷ ts) = refl
-read_key-bracket (end_array ∷ ts) = refl
-read_key-bracket (key s ∷ ts) = refl
-read_key-bracket (string s ∷ ts) = refl
-read_key-bracket (number s ∷ ts) = refl
-read_key-bracket (boolean b ∷ ts) = refl
-read_key-bracket (null ∷ ts) = refl
 read_key-bracket (bad ∷ ts) = refl
+read_key-bracket (t ∷ ts) = refl
 
 -- with the bracket the tokens are never none
 some_tokens : (ts : List Token) → 0 < length (with_bracket ts)
 some_tokens [] = omega arith
-some_tokens (begin_object ∷ ts) = omega arith
-some_tokens (end_object ∷ ts) = omega arith
-some_tokens (begin_array ∷ ts) = omega arith
-some_tokens (end_array ∷ ts) = omega arith
-some_tokens (key s ∷ ts) = omega arith
-some_tokens (string s ∷ ts) = omega arith
-some_tokens (number s ∷ ts) = omega arith
-some_tokens (boolean b ∷ ts) = omega arith
-some_tokens (null ∷ ts) = omega arith
 some_tokens (bad ∷ ts) = omega arith
+some_tokens (t ∷ ts) = omega arith
 
 -- so many turns are enough for some tokens, with and without the bracket
 record AreEnough (n m : ℕ) (ts : List Token) : Type 0 where
@@ -71,12 +56,7 @@ record AreEnough (n m : ℕ) (ts : List Token) : Type 0 where
   closed : length (with_bracket ts) ≤ m
 
 module _ (p : Parse Json) (takes : Takes p) (closes : (ts : List Token) → IsClosed (p ts) (p (with_bracket ts))) (nothing : p [] ≡ None) where
-  -- no item and no member begins where nothing is left
-  items_none : (m : ℕ) → items p m [] ≡ None
-  unfolding items
-  items_none zero = refl
-  items_none (suc m) = ap (option_and_then (λ q. parse_map (item q.0) (items p m q.1))) nothing
-
+  -- no member begins where nothing is left
   members_none : (m : ℕ) → members p m [] ≡ None
   unfolding members
   members_none zero = refl
@@ -86,7 +66,7 @@ module _ (p : Parse Json) (takes : Takes p) (closes : (ts : List Token) → IsCl
       → IsClosed (option_and_then (λ q. parse_map (item q.0) (items p n q.1)) o) (option_and_then (λ q. parse_map (item q.0) (items p m q.1)) closed)
   item_taken n m ts None None is e f again enough = λ r h. cc
   item_taken n m ts None (Some q) is e f again enough = λ r h.
-      let none : items p m q.1 ≡ None = ap (items p m) (is q.1 refl) ∙ items_none m in
+      let none : items p m q.1 ≡ None = ap (items p m) (is q.1 refl) ∙ items-nothing p nothing m in
       let never : None ≡ Some r = ap left (sym (ap (parse_map (item q.0)) none)) ∙ h in
       cc
   item_taken n m ts (Some q) closed is e f again enough =
@@ -150,11 +130,6 @@ IsClosed-value_with a o p q (boolean b ∷ ts) = refl
 IsClosed-value_with a o p q (null ∷ ts) = refl
 IsClosed-value_with a o p q (bad ∷ ts) = λ r e. cc
 
-value_none : (depth : ℕ) → value depth [] ≡ None
-unfolding value
-value_none zero = refl
-value_none (suc d) = refl
-
 enough : (ts : List Token) → AreEnough (length ts) (length (with_bracket ts)) ts
 enough ts = record { plain = omega arith; closed = omega arith }
 
@@ -163,12 +138,12 @@ unfolding value
 IsClosed-value zero = IsClosed-value_with (λ ts. None) (λ ts. None) (λ ts r e. cc) (λ ts. refl)
 IsClosed-value (suc d) =
     IsClosed-value_with (λ ts. items (value d) (length ts) ts) (λ ts. members (value d) (length ts) ts)
-    (λ ts. IsClosed-items (value d) (skip_value-shorter d) (IsClosed-value d) (value_none d) (length ts) (length (with_bracket ts)) ts (enough ts))
-    (λ ts. members-bracket (value d) (skip_value-shorter d) (IsClosed-value d) (value_none d) (length ts) (length (with_bracket ts)) ts (enough ts))
+    (λ ts. IsClosed-items (value d) (skip_value-shorter d) (IsClosed-value d) (value_is d []) (length ts) (length (with_bracket ts)) ts (enough ts))
+    (λ ts. members-bracket (value d) (skip_value-shorter d) (IsClosed-value d) (value_is d []) (length ts) (length (with_bracket ts)) ts (enough ts))
 
 -- an object can't take the bracket
 pub object-bracket : (depth : ℕ) (ts : List Token) → value depth (begin_object ∷ with_bracket ts) ≡ with_bracket_left (value depth (begin_object ∷ ts))
 unfolding value
 object-bracket zero ts = refl
 object-bracket (suc d) ts =
-    same-map json.object (members (value d) (length ts) ts) _ (members-bracket (value d) (skip_value-shorter d) (IsClosed-value d) (value_none d) (length ts) (length (with_bracket ts)) ts (enough ts))
+    same-map json.object (members (value d) (length ts) ts) _ (members-bracket (value d) (skip_value-shorter d) (IsClosed-value d) (value_is d []) (length ts) (length (with_bracket ts)) ts (enough ts))

@@ -1,6 +1,6 @@
 -- The data that all tokens are, with a closing bracket behind them.
 use Rattle.std.proofs.Common.{◌≡◌, ℕ, List, [], ◌∷◌, Option, Some, None, option_and_then, refl, ap, ◌∙◌}
-use Rattle.json.specs.{Json.{Json, value, if_last}, Reads.token_of, Token.{Token, begin_object, end_object, begin_array, end_array, key, string, number, boolean, null, bad}, declared.token.Token.Token as ReadToken}
+use Rattle.json.specs.{Json.{Json, value, if_last}, Reads.token_of, Token.{Token, begin_object, bad}, declared.token.Token.Token as ReadToken}
 use Rattle.serde_json.specs.{Data.Data, Read.{of_json, converted}}
 use Rattle.json.proofs.Grammar.{value_is}
 use Rattle.span_read.specs.{Ending.with_bracket, Tokens.{data_at, data_of_all}}
@@ -12,16 +12,8 @@ whole o = option_and_then of_json (option_and_then (λ p. if_last p.0 p.1) o)
 
 bracket_left : (j : Json) (r : List Token) → if_last j (with_bracket r) ≡ None
 bracket_left j [] = refl
-bracket_left j (begin_object ∷ ts) = refl
-bracket_left j (end_object ∷ ts) = refl
-bracket_left j (begin_array ∷ ts) = refl
-bracket_left j (end_array ∷ ts) = refl
-bracket_left j (key s ∷ ts) = refl
-bracket_left j (string s ∷ ts) = refl
-bracket_left j (number s ∷ ts) = refl
-bracket_left j (boolean b ∷ ts) = refl
-bracket_left j (null ∷ ts) = refl
 bracket_left j (bad ∷ ts) = refl
+bracket_left j (t ∷ ts) = refl
 
 not_whole : (o : Option (Json × List Token)) → whole (with_bracket_left o) ≡ None
 not_whole None = refl
