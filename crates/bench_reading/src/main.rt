@@ -3,23 +3,26 @@
 #![tactic(auto)]
 
 use serde_json::Value;
-use span_event::{Item, Items};
-use span_read::{Format, ReadError, Reading, Unit, read_items, read_items_in_parts};
+use span_event::Item;
+use span_read::{Format, ItemBlocks, ReadError, Reading, Unit, read_items_in_parts};
 use std::alloc::Global;
 use std::io::{self, Read};
 use std::thread::Threads;
 use std::{env, str, thread};
 
 // How many items are good events, faults, and other events.
-fn counts(items: Items) -> (u64, u64, u64) {
+fn counts(items: ItemBlocks) -> (u64, u64, u64) {
     let mut good = 0u64;
     let mut faults = 0u64;
     let mut others = 0u64;
-    for item in items.into_list() {
-        match item {
-            Item::Good(_) => good = good.saturating_add(1),
-            Item::Bad(_) => faults = faults.saturating_add(1),
-            Item::Other => others = others.saturating_add(1),
+    let count = items.len();
+    let mut items = items.into_remaining();
+    for _ in 0..count {
+        match items.next() {
+            Some(Item::Good(_)) => good = good.saturating_add(1),
+            Some(Item::Bad(_)) => faults = faults.saturating_add(1),
+            Some(Item::Other) => others = others.saturating_add(1),
+            None => {}
         }
     }
     (good, faults, others)
@@ -32,7 +35,7 @@ fn is_json(alloc: Global, bytes: &[u8]) -> bool {
     }
 }
 
-fn print_counts(rt: &impl Print, read: Result<Items, ReadError>) -> io::Result<()> {
+fn print_counts(rt: &impl Print, read: Result<ItemBlocks, ReadError>) -> io::Result<()> {
     match read {
         Ok(items) => {
             let (good, faults, others) = counts(items);
@@ -42,14 +45,10 @@ fn print_counts(rt: &impl Print, read: Result<Items, ReadError>) -> io::Result<(
     }
 }
 
-fn in_parts<R: Threads>(rt: &R) -> Reading {
-    let parts = match thread::available_parallelism(rt) {
+fn processors<R: Threads>(rt: &R) -> u32 {
+    match thread::available_parallelism(rt) {
         Ok(count) => count.get().min(64) as u32,
         Err(_) => 1,
-    };
-    Reading {
-        format: Format::of(Unit::Microseconds),
-        parts,
     }
 }
 
@@ -63,9 +62,9 @@ fn main(rt: HostRuntime) -> io::Result<()> {
         return println!(rt; "json {is_json}");
     }
     let parted = env::args(&rt)?.any(|word| word.as_str() == "parts");
-    if parted {
-        let reading = in_parts(&rt);
-        return print_counts(&rt, read_items_in_parts(&rt, alloc, reading, &bytes));
-    }
-    print_counts(&rt, read_items(alloc, &bytes))
+    let reading = Reading {
+        format: Format::of(Unit::Microseconds),
+        parts: if parted { processors(&rt) } else { 1 },
+    };
+    print_counts(&rt, read_items_in_parts(&rt, alloc, reading, &bytes))
 }

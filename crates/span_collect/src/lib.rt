@@ -9,7 +9,6 @@ mod parts;
 mod queries;
 mod reading_places;
 pub mod refusals;
-mod remaining;
 mod runs;
 mod sealing;
 mod settings;

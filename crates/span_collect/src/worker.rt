@@ -6,10 +6,9 @@ use crate::files::{FileEnd, Input};
 use crate::gate::Gate;
 use crate::parts::parts_for;
 use crate::reading_places::ReadingPlaces;
-use crate::remaining::Remaining;
-use span_event::{Item, Items};
+use span_event::Item;
 use span_journal::Cause;
-use span_read::{ReadError, Reading, read_items_in_parts};
+use span_read::{ItemBlocks, ReadError, Reading, read_items_in_parts};
 use span_share::{Seat, Share};
 use std::alloc::Global;
 use std::sync::Wait;
@@ -68,7 +67,7 @@ fn tell_all<G: Gate, R: Wait>(
     share: &Share,
     gate: &G,
     worker: u32,
-    items: Items,
+    items: ItemBlocks,
     seat: &mut Seat,
 ) -> FileEnd
     requires new { IsNewSeat share.now seat.old }
@@ -78,7 +77,7 @@ fn tell_all<G: Gate, R: Wait>(
 {
     let caller = seat.number();
     let mut done: u32 = 0;
-    let mut remaining = Remaining::of(items);
+    let mut remaining = items.into_remaining();
     'items: while let Some(item) = remaining.next() {
         gate.pass(worker, done);
         fetch_args(alloc, &item);

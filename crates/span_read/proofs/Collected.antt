@@ -13,7 +13,7 @@ items_of-items_before unit [] = refl
 items_of-items_before unit (b ∷ bs) = ap (λ is. item_of_data unit b ∷ is) (items_of-items_before unit bs)
 
 -- there are as many elements as items, or more than the limit
-as_many_or : (format : Format) (e : Elements) (ds : List Data) → AreCollected format e ds → (b : Bool) → e.too_many ≡ b → length e.items.items ≤ length ds
+as_many_or : (format : Format) (e : Elements) (ds : List Data) → AreCollected format e ds → (b : Bool) → e.too_many ≡ b → length e.items ≤ length ds
 as_many_or format e ds are true h = omega (arith, are.within, are.over h)
 as_many_or format e ds are false h = omega (arith, ap length (are.all h), length-map ds (item_of_data format.unit))
 
@@ -26,17 +26,17 @@ Adds-both format old mid new ds es first second = λ before are. subst (AreColle
 
 module _ (format : Format) (start old new : Elements) (ds : List Data) (d : Data) (added : Adds format start old ds) where
   -- one element more, below the limit and above it
-  pub Adds-push : length old.items.items < format.most_elements → new.items.items ≡ old.items.items ++ item_of_data format.unit d ∷ [] → new.too_many ≡ old.too_many → Adds format start new (ds ++ d ∷ [])
+  pub Adds-push : length old.items < format.most_elements → new.items ≡ old.items ++ item_of_data format.unit d ∷ [] → new.too_many ≡ old.too_many → Adds format start new (ds ++ d ∷ [])
   Adds-push few pushed same = λ before are.
       let all = added before are in
       let long = length-append (before ++ ds) (d ∷ []) in
       subst (AreCollected format new) (append_assoc before ds (d ∷ [])) (record {
-        within = omega (arith, few, ap length pushed, length-append old.items.items (item_of_data format.unit d ∷ []));
+        within = omega (arith, few, ap length pushed, length-append old.items (item_of_data format.unit d ∷ []));
         all = λ h. map_push (item_of_data format.unit) (before ++ ds) d ∙ ap (λ is. is ++ item_of_data format.unit d ∷ []) (all.all (sym same ∙ h)) ∙ sym pushed;
         over = λ h. omega (arith, long, all.over (sym same ∙ h));
       })
 
-  pub Adds-over : format.most_elements ≤ length old.items.items → new.items.items ≡ old.items.items → new.too_many ≡ true → Adds format start new (ds ++ d ∷ [])
+  pub Adds-over : format.most_elements ≤ length old.items → new.items ≡ old.items → new.too_many ≡ true → Adds format start new (ds ++ d ∷ [])
   Adds-over full same more = λ before are.
       let all = added before are in
       let long = length-append (before ++ ds) (d ∷ []) in
@@ -47,16 +47,16 @@ module _ (format : Format) (start old new : Elements) (ds : List Data) (d : Data
       })
 
 -- several elements more
-pub Adds-items : (format : Format) (old new : Elements) (is : List Item) → length old.items.items + length is ≤ format.most_elements → new.items.items ≡ old.items.items ++ is → new.too_many ≡ old.too_many → AddsItems format is old new
+pub Adds-items : (format : Format) (old new : Elements) (is : List Item) → length old.items + length is ≤ format.most_elements → new.items ≡ old.items ++ is → new.too_many ≡ old.too_many → AddsItems format is old new
 Adds-items format old new is few made same = λ ds items before are.
     let long = length-append before ds in
     record {
-      within = omega (arith, few, ap length made, length-append old.items.items is);
+      within = omega (arith, few, ap length made, length-append old.items is);
       all = λ h. map-append (item_of_data format.unit) before ds ∙ ap₂ (λ xs ys. xs ++ ys) (are.all (sym same ∙ h)) items ∙ sym made;
       over = λ h. omega (arith, long, are.over (sym same ∙ h));
     }
 
-pub Adds-too_many : (format : Format) (old new : Elements) (is : List Item) → format.most_elements < length old.items.items + length is → new.items.items ≡ old.items.items → new.too_many ≡ true → AddsItems format is old new
+pub Adds-too_many : (format : Format) (old new : Elements) (is : List Item) → format.most_elements < length old.items + length is → new.items ≡ old.items → new.too_many ≡ true → AddsItems format is old new
 Adds-too_many format old new is many same more = λ ds items before are.
     let long = length-append before ds in
     let wide : length ds ≡ length is = sym (length-map ds (item_of_data format.unit)) ∙ ap length items in
@@ -71,19 +71,19 @@ doc_of_elements-over format e ds are more =
     let over : format.most_elements < items_len (items_before ds no_items) = omega (arith, items_len-items_before ds no_items, are.over more) in
     search (rules, tests)
 
-doc_of_elements-all : (format : Format) (e : Elements) (ds : List Data) → AreCollected format e ds → e.too_many ≡ false → doc_of_elements format (Some (items_before ds no_items)) ≡ Ok e.items.items
+doc_of_elements-all : (format : Format) (e : Elements) (ds : List Data) → AreCollected format e ds → e.too_many ≡ false → doc_of_elements format (Some (items_before ds no_items)) ≡ Ok e.items
 doc_of_elements-all format e ds are whole =
     let within : items_len (items_before ds no_items) ≤ format.most_elements = omega (arith, items_len-items_before ds no_items, are.within, ap length (are.all whole), length-map ds (item_of_data format.unit)) in
     let kept : doc_of_elements format (Some (items_before ds no_items)) ≡ Ok (items_of format.unit (items_before ds no_items)) = search (rules, tests) in
     kept ∙ ap Ok (items_of-items_before format.unit ds ∙ are.all whole)
 
-collected : (format : Format) (e : Elements) (ds : List Data) → AreCollected format e ds → (b : Bool) → e.too_many ≡ b → (if b then Err TooMany else Ok e.items.items) ≡ doc_of_elements format (Some (items_before ds no_items))
+collected : (format : Format) (e : Elements) (ds : List Data) → AreCollected format e ds → (b : Bool) → e.too_many ≡ b → (if b then Err TooMany else Ok e.items) ≡ doc_of_elements format (Some (items_before ds no_items))
 collected format e ds are true h = doc_of_elements-over format e ds are h
 collected format e ds are false h = sym (doc_of_elements-all format e ds are h)
 
 -- what is found of the items, with the limit, where none were collected before
-pub doc_of_elements-collected : (format : Format) (start e : Elements) (ds : List Data) → start.items.items ≡ [] → start.too_many ≡ false → Adds format start e ds
-    → (if e.too_many then Err TooMany else Ok e.items.items) ≡ doc_of_elements format (Some (items_before ds no_items))
+pub doc_of_elements-collected : (format : Format) (start e : Elements) (ds : List Data) → start.items ≡ [] → start.too_many ≡ false → Adds format start e ds
+    → (if e.too_many then Err TooMany else Ok e.items) ≡ doc_of_elements format (Some (items_before ds no_items))
 doc_of_elements-collected format start e ds none few added =
     let empty : AreCollected format start [] = record { within = omega (arith, ap length none); all = λ h. sym none; over = λ h. absurd (cc) } in
     collected format e ds (added [] empty) e.too_many refl

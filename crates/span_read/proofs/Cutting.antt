@@ -32,7 +32,7 @@ weaker : (depth : ℕ) (start after : List Token) (P Q : List Data → Type 0) �
 weaker depth start after P Q gives s = record { before = s.before; turns = s.turns; enough = s.enough; same = s.same; holds = gives s.before s.holds }
 
 -- what was taken up to the end of a text are its elements
-pub AreElements-read : (format : Format) (depth : ℕ) (text : List ℕ) (start e : Elements) → start.items.items ≡ [] → start.too_many ≡ false → e.too_many ≡ false → ReadsSoFar depth (tokens text) [] (Adds format start e) → AreElements format.unit depth text e.items.items
+pub AreElements-read : (format : Format) (depth : ℕ) (text : List ℕ) (start e : Elements) → start.items ≡ [] → start.too_many ≡ false → e.too_many ≡ false → ReadsSoFar depth (tokens text) [] (Adds format start e) → AreElements format.unit depth text e.items
 AreElements-read format depth text start e none few all s =
     let empty : AreCollected format start [] = record { within = omega (arith, ap length none); all = λ h. sym none; over = λ h. absurd (cc) } in
     record { good = ReadsSoFar-good depth (tokens text) _ s; read = λ more. weaker depth (tokens text ++ more) more _ _ (λ ds added. (added [] empty).all all) (s.behind more) }

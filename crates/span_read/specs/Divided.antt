@@ -16,4 +16,4 @@ IsWhole text = text.middle ≡ None
 
 -- the items of the middle, if there is one, are those of its text
 abbrev pub IsRead : Divided → Type 0
-IsRead text = IfSome text.middle (λ middle. AreElements middle.unit middle.depth middle.text.now middle.items.items)
+IsRead text = IfSome text.middle (λ middle. AreElements middle.unit middle.depth middle.text.now middle.items)

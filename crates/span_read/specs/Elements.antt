@@ -7,8 +7,8 @@ use Rattle.span_read.specs.declared.elements.End.TheVariants as end
 
 -- the items of the elements so far, up to the limit, and whether there were more
 pub record AreCollected (format : Format) (elements : Elements) (ds : List Data) : Type 0 where
-  pub within : length elements.items.items ≤ format.most_elements
-  pub all : elements.too_many ≡ false → map (item_of_data format.unit) ds ≡ elements.items.items
+  pub within : length elements.items ≤ format.most_elements
+  pub all : elements.too_many ≡ false → map (item_of_data format.unit) ds ≡ elements.items
   pub over : elements.too_many ≡ true → format.most_elements < length ds
 
 -- these elements were collected behind those of `old`

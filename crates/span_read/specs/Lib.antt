@@ -1,4 +1,5 @@
 pub mod ArgMap
+pub mod Blocks
 pub mod Decimals
 pub mod Divided
 pub mod Document

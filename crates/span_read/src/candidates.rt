@@ -3,9 +3,9 @@ ghost use Rattle.std.specs.Prelude.{◌≡◌, ◌≢◌, ◌∷◌, ◌++◌, [
 ghost use Rattle.serde_json.specs.Read.{read};
 ghost use Rattle.span_read.specs.{Document.{is_blank, opens_with, without_trailing_blanks, without_trailing_comma, cut_text, candidates, first_read, doc_of_document}, Ending.closes_array, declared.error.ReadError.TheVariants.Memory};
 
+use crate::blocks::ItemBlocks;
 use crate::error::ReadError;
 use crate::format::Format;
-use span_event::Items;
 use std::alloc::Global;
 
 /// How deep arrays and objects may nest.
@@ -23,7 +23,7 @@ pub(crate) trait TextReader {
         format: Format,
         text: &str,
         bracket: bool,
-    ) -> Result<Items, ReadError>
+    ) -> Result<ItemBlocks, ReadError>
         requires { is_ready }
         ensures { result ≢ Err Memory
             → result ≡ doc_of_document format (read (if bracket then text.now ++ 93 ∷ [] else text.now)) };
@@ -35,7 +35,7 @@ pub(crate) fn read_first<T: TextReader>(
     alloc: Global,
     format: Format,
     text: &str,
-) -> Result<Items, ReadError>
+) -> Result<ItemBlocks, ReadError>
     requires { T.is_ready }
     ensures { result ≢ Err Memory
         → result ≡ doc_of_document format (first_read (candidates text.now)) }
@@ -53,7 +53,7 @@ fn read_unfinished<T: TextReader>(
     alloc: Global,
     format: Format,
     text: &str,
-) -> Result<Items, ReadError>
+) -> Result<ItemBlocks, ReadError>
     requires { T.is_ready }
     ensures { result ≢ Err Memory → result ≡ doc_of_document format
         (first_read (cut_text text.now ∷ (cut_text text.now ++ 93 ∷ []) ∷ [])) }
@@ -71,7 +71,7 @@ fn read_closed<T: TextReader>(
     alloc: Global,
     format: Format,
     text: &str,
-) -> Result<Items, ReadError>
+) -> Result<ItemBlocks, ReadError>
     requires { T.is_ready }
     ensures { result ≢ Err Memory → result ≡ doc_of_document format (read text.now) }
 {

@@ -1,8 +1,9 @@
 //! A text whose middle may have been read before the rest of it.
 
+use crate::blocks::ItemBlocks;
 use crate::tokens::Tokens;
 use json::Reader;
-use span_event::{Item, Unit};
+use span_event::Unit;
 
 /// Elements from the middle of a text, and the tokens behind them.
 #[derive(Drop)]
@@ -11,7 +12,7 @@ pub(crate) struct Middle<'a> {
     /// How deep values in these elements may nest.
     pub(crate) depth: usize,
     pub(crate) text: &'a str,
-    pub(crate) items: Vec<Item>,
+    pub(crate) items: ItemBlocks,
     pub(crate) rest: Reader<'a>,
 }
 
@@ -20,4 +21,6 @@ pub(crate) struct Middle<'a> {
 pub(crate) struct Divided<'a> {
     pub(crate) tokens: Tokens<'a>,
     pub(crate) middle: Option<Middle<'a>>,
+    /// How many items a block of those that are read has at most.
+    pub(crate) block: usize,
 }

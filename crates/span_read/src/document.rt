@@ -155,7 +155,7 @@ fn collect_elements(
     if depth == 0 {
         return Err(Stop::NotJson);
     }
-    let mut elements = Elements::new(text.tokens.alloc);
+    let mut elements = Elements::new(text.tokens.alloc, text.block);
     let end = elements.take(&mut text.tokens, format, depth)?;
     let End::Text = end else {
         return Ok((elements.found(), End::Bracket));

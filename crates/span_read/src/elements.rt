@@ -4,6 +4,7 @@ ghost use Rattle.json.specs.Reads.{token_of};
 ghost use Rattle.span_read.specs.{Element.item_of_data, Elements.{Adds, AddsItems, TakesUpTo}, Ending.ended, Tokens.{data_at, TakesValue, IsNotJson}, declared.error.ReadError.TheVariants.TooMany};
 ghost use Rattle.json.specs.Token as spec;
 
+use crate::blocks::ItemBlocks;
 use crate::element::item_of_fields;
 use crate::error::ReadError;
 use crate::error::stop::Stop;
@@ -14,11 +15,11 @@ use crate::tokens::beginning::{Beginning, beginning_of};
 use crate::tokens::kept::read_members;
 use crate::tokens::pass::{pass_array, pass_begun};
 use json::Token;
-use span_event::{Item, ItemFault, Items, Unit};
+use span_event::{Item, ItemFault, Unit};
 use std::alloc::{AllocError, Global};
 
 /// The items of a document, or why it is no trace that can be used.
-pub(crate) type Found = Result<Items, ReadError>;
+pub(crate) type Found = Result<ItemBlocks, ReadError>;
 
 /// What comes after the last element that was taken: the bracket that closes the array, or the end of the text.
 #[derive(Drop)]
@@ -30,41 +31,42 @@ pub(crate) enum End {
 /// The items of the elements so far, at most as many as a file may have, and whether there are more elements.
 #[derive(Drop)]
 pub(crate) struct Elements {
-    pub(crate) items: Vec<Item>,
+    pub(crate) items: ItemBlocks,
     pub(crate) too_many: bool,
 }
 
 impl Elements {
-    pub(crate) fn new(alloc: Global) -> Elements
-        ensures items { result.items.items ≡ [] }
+    /// None, which are to be kept in blocks of at most so many items.
+    pub(crate) fn new(alloc: Global, block: usize) -> Elements
+        ensures items { result.items ≡ [] }
         ensures few { result.too_many ≡ false }
     {
         Elements {
-            items: Vec::new(alloc),
+            items: ItemBlocks::new(alloc, block),
             too_many: false,
         }
     }
 
     /// What is found in an array with these elements, if they aren't too many.
     pub(crate) fn found(self) -> Found
-        ensures { result ≡ (if self.too_many then Err TooMany else Ok self.items.items) }
+        ensures { result ≡ (if self.too_many then Err TooMany else Ok self.items) }
     {
         if self.too_many {
             Err(ReadError::TooMany)
         } else {
-            Ok(Items::of_list(self.items))
+            Ok(self.items)
         }
     }
 
     /// Adds the items of the elements that come next. If they are too many, none is kept.
-    pub(crate) fn add(&mut self, format: Format, mut items: Vec<Item>) -> Result<(), AllocError>
-        ensures { IfOk result (λ done. AddsItems format items.items self.old self.new) }
+    pub(crate) fn add(&mut self, format: Format, items: ItemBlocks) -> Result<(), AllocError>
+        ensures { IfOk result (λ done. AddsItems format items self.old self.new) }
     {
         if self.items.len().saturating_add(items.len()) > format.most_elements as usize {
             self.too_many = true;
             return Ok(());
         }
-        self.items.append(&mut items)
+        self.items.join(items)
     }
 
     /// Takes the elements of an array, whose bracket was taken, until it is closed or the text ends. Past the limit no item is kept,

@@ -2,6 +2,7 @@
 ghost use Rattle.std.specs.Prelude.{◌≡◌, ◌≢◌, ◌<◌, ◌↔◌, length, IfOk, IfErr, Ok, Err, All};
 ghost use Rattle.span_read.specs.{IsGoodItem, Microseconds, Document.{doc, format_of}, Time.IsItemInRange, declared.error.ReadError.TheVariants.{TooLarge, Memory}};
 
+use crate::blocks::ItemBlocks;
 use crate::candidates::{TextReader, read_first};
 use crate::error::ReadError;
 use crate::format::Format;
@@ -38,7 +39,12 @@ pub fn read_items_in(alloc: Global, format: Format, bytes: &[u8]) -> Result<Item
     ensures in_range { IfOk result (All (IsItemInRange format.unit)) }
     ensures too_large { (result ≡ Err TooLarge) ↔ (format.most_bytes < length bytes.now) }
 {
-    read_bytes(&InOne, alloc, format, bytes)
+    let one = InOne { block: usize::MAX };
+    let items = read_bytes(&one, alloc, format, bytes)?;
+    match items.into_list() {
+        Ok(list) => Ok(Items::of_list(list)),
+        Err(_) => Err(ReadError::Memory),
+    }
 }
 
 /// The same, by a way to read texts.
@@ -47,7 +53,7 @@ pub(crate) fn read_bytes<T: TextReader>(
     alloc: Global,
     format: Format,
     bytes: &[u8],
-) -> Result<Items, ReadError>
+) -> Result<ItemBlocks, ReadError>
     requires { T.is_ready }
     ensures items { IfOk result (λ items. doc format bytes.now ≡ Ok items) }
     ensures refused { IfErr result (λ error. error ≢ Memory → doc format bytes.now ≡ Err error) }

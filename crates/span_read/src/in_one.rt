@@ -3,6 +3,7 @@ ghost use Rattle.std.specs.Prelude.{◌≡◌, ◌≢◌, ◌∷◌, ◌++◌, [
 ghost use Rattle.serde_json.specs.Read.{read};
 ghost use Rattle.span_read.specs.{Document.doc_of_document, Ending.ended, Tokens.{data_of_all, IsNotJson}, declared.error.ReadError.TheVariants.Memory};
 
+use crate::blocks::ItemBlocks;
 use crate::candidates::{MAX_DEPTH, TextReader};
 use crate::divided::Divided;
 use crate::document::read_all;
@@ -12,12 +13,13 @@ use crate::error::stop::Stop;
 use crate::format::Format;
 use crate::tokens::Tokens;
 use json::Scratch;
-use span_event::Items;
 use std::alloc::Global;
 
-/// Reads a text from its beginning to its end.
+/// Reads a text from its beginning to its end, and keeps its items in blocks of at most so many.
 #[derive(Drop)]
-pub(crate) struct InOne;
+pub(crate) struct InOne {
+    pub(crate) block: usize,
+}
 
 impl TextReader for InOne {
     ghost use Rattle.std.specs.Prelude.{⊤};
@@ -30,8 +32,8 @@ impl TextReader for InOne {
         format: Format,
         text: &str,
         bracket: bool,
-    ) -> Result<Items, ReadError> {
-        read_text(alloc, format, text, bracket)
+    ) -> Result<ItemBlocks, ReadError> {
+        read_text(alloc, format, text, bracket, self.block)
     }
 }
 
@@ -41,7 +43,8 @@ pub(crate) fn read_text(
     format: Format,
     text: &str,
     bracket: bool,
-) -> Result<Items, ReadError>
+    block: usize,
+) -> Result<ItemBlocks, ReadError>
     ensures { result ≢ Err Memory
         → result ≡ doc_of_document format (read (if bracket then text.now ++ 93 ∷ [] else text.now)) }
 {
@@ -49,7 +52,7 @@ pub(crate) fn read_text(
     let Ok(tokens) = Tokens::of(alloc, text, &mut scratch) else {
         return Err(ReadError::Memory);
     };
-    match read_tokens(tokens, format, bracket) {
+    match read_tokens(tokens, format, bracket, block) {
         Ok(found) => found,
         Err(Stop::NotJson) => Err(ReadError::NotJson),
         Err(Stop::Memory) => Err(ReadError::Memory),
@@ -57,7 +60,12 @@ pub(crate) fn read_text(
 }
 
 /// Reads the document that all the tokens are, or that they are with a closing bracket behind them.
-fn read_tokens(tokens: Tokens<'_>, format: Format, bracket: bool) -> Result<Found, Stop>
+fn read_tokens(
+    tokens: Tokens<'_>,
+    format: Format,
+    bracket: bool,
+    block: usize,
+) -> Result<Found, Stop>
     ensures found { IfOk result (λ found.
         found ≡ doc_of_document format (data_of_all 127 (ended bracket tokens.entry.reader))) }
     ensures refused { IsNotJson result → data_of_all 127 (ended bracket tokens.entry.reader) ≡ None }
@@ -65,6 +73,7 @@ fn read_tokens(tokens: Tokens<'_>, format: Format, bracket: bool) -> Result<Foun
     let mut text = Divided {
         tokens,
         middle: None,
+        block,
     };
     read_all(&mut text, format, MAX_DEPTH, bracket)
 }

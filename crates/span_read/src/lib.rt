@@ -2,6 +2,7 @@
 #![tactic(auto)]
 
 mod arg_map;
+mod blocks;
 mod candidates;
 mod cuts;
 mod divided;
@@ -22,6 +23,7 @@ mod token_fields;
 mod tokens;
 mod value_fields;
 
+pub use blocks::{ItemBlocks, RemainingItems};
 pub use element::item_of;
 pub use error::ReadError;
 pub use file::{read_items, read_items_in};

@@ -4,6 +4,7 @@ ghost use Rattle.json.specs.Lex.{tokens};
 ghost use Rattle.serde_json.specs.Read.{read};
 ghost use Rattle.span_read.specs.{Document.doc_of_document, Ending.ended, Parts.AreElements, Tokens.data_of_all, declared.error.ReadError.TheVariants.{Memory, NotJson}};
 
+use crate::blocks::{BLOCK, ItemBlocks};
 use crate::candidates::{MAX_DEPTH, TextReader, opens_with};
 use crate::cuts::{first_cut, last_cut};
 use crate::divided::{Divided, Middle};
@@ -15,7 +16,6 @@ use crate::format::Format;
 use crate::in_one::read_text;
 use crate::tokens::Tokens;
 use json::{Reader, Scratch};
-use span_event::{Item, Items};
 use std::alloc::Global;
 use std::thread::{Threads, join_mut};
 
@@ -35,10 +35,10 @@ impl<R: Threads + Sync> TextReader for InParts<'_, R> {
         format: Format,
         text: &str,
         bracket: bool,
-    ) -> Result<Items, ReadError> {
+    ) -> Result<ItemBlocks, ReadError> {
         match read_divided(self, alloc, format, text, bracket) {
             Err(Stop::NotJson) | Ok(Err(ReadError::NotJson)) => {
-                read_text(alloc, format, text, bracket)
+                read_text(alloc, format, text, bracket, BLOCK)
             }
             Err(Stop::Memory) => Err(ReadError::Memory),
             Ok(found) => found,
@@ -95,11 +95,11 @@ fn read_divided<R: Threads + Sync>(
 fn read_around<'a>(
     first: Tokens<'a>,
     part: Part<'a>,
-    items: Vec<Item>,
+    items: ItemBlocks,
     rest: Reader<'a>,
     bracket: bool,
 ) -> Result<Found, Stop>
-    requires read { AreElements part.format.unit (part.depth - 1) part.text.now items.items }
+    requires read { AreElements part.format.unit (part.depth - 1) part.text.now items }
     requires deep { 0 < part.depth }
     ensures { IfOk result (λ found. found ≡ doc_of_document part.entry.format
         (data_of_all 127 (ended bracket (first.entry.reader ++ (tokens part.entry.text.now ++ rest.entry))))) }
@@ -114,16 +114,17 @@ fn read_around<'a>(
             items,
             rest,
         }),
+        block: BLOCK,
     };
     read_all(&mut text, format, MAX_DEPTH, bracket)
 }
 
 /// The items of some elements, which are read in two parts if both can have a part of their own.
 #[cycle(parts)]
-fn read_part<R: Threads + Sync>(rt: &R, alloc: Global, part: Part) -> Result<Vec<Item>, Stop>
+fn read_part<R: Threads + Sync>(rt: &R, alloc: Global, part: Part) -> Result<ItemBlocks, Stop>
     requires { 0 < part.depth }
     ensures { IfOk result (λ items.
-        AreElements part.entry.format.unit (part.entry.depth - 1) part.entry.text.now items.items) }
+        AreElements part.entry.format.unit (part.entry.depth - 1) part.entry.text.now items) }
 {
     if part.parts < 2 {
         return read_elements(alloc, part);
@@ -145,7 +146,7 @@ fn read_part<R: Threads + Sync>(rt: &R, alloc: Global, part: Part) -> Result<Vec
     };
     let (first, second) = read_both(rt, alloc, front, back);
     let mut items = first?;
-    items.append(&mut second?)?;
+    items.join(second?)?;
     Ok(items)
 }
 
@@ -156,40 +157,40 @@ fn read_both<R: Threads + Sync>(
     alloc: Global,
     front: Part,
     back: Part,
-) -> (Result<Vec<Item>, Stop>, Result<Vec<Item>, Stop>)
+) -> (Result<ItemBlocks, Stop>, Result<ItemBlocks, Stop>)
     requires parts { (0 < front.parts) × (0 < back.parts) }
     requires deep { (0 < front.depth) × (0 < back.depth) }
     ensures front { IfOk result.0 (λ items.
-        AreElements front.entry.format.unit (front.entry.depth - 1) front.entry.text.now items.items) }
+        AreElements front.entry.format.unit (front.entry.depth - 1) front.entry.text.now items) }
     ensures back { IfOk result.1 (λ items.
-        AreElements back.entry.format.unit (back.entry.depth - 1) back.entry.text.now items.items) }
+        AreElements back.entry.format.unit (back.entry.depth - 1) back.entry.text.now items) }
 {
     join_mut(
         rt,
-        &mut || -> Result<Vec<Item>, Stop>
+        &mut || -> Result<ItemBlocks, Stop>
             requires sync { IsSync R.row }
             requires deep { 0 < front.depth }
             ensures { IfOk result (λ items.
-                AreElements front.entry.format.unit (front.entry.depth - 1) front.entry.text.now items.items) }
+                AreElements front.entry.format.unit (front.entry.depth - 1) front.entry.text.now items) }
         { read_part(rt, alloc, front) },
-        &mut || -> Result<Vec<Item>, Stop>
+        &mut || -> Result<ItemBlocks, Stop>
             requires sync { IsSync R.row }
             requires deep { 0 < back.depth }
             ensures { IfOk result (λ items.
-                AreElements back.entry.format.unit (back.entry.depth - 1) back.entry.text.now items.items) }
+                AreElements back.entry.format.unit (back.entry.depth - 1) back.entry.text.now items) }
         { read_part(rt, alloc, back) },
     )
 }
 
 /// The items of the elements, which are read in one.
-fn read_elements(alloc: Global, part: Part) -> Result<Vec<Item>, Stop>
+fn read_elements(alloc: Global, part: Part) -> Result<ItemBlocks, Stop>
     requires { 0 < part.depth }
     ensures { IfOk result (λ items.
-        AreElements part.entry.format.unit (part.entry.depth - 1) part.entry.text.now items.items) }
+        AreElements part.entry.format.unit (part.entry.depth - 1) part.entry.text.now items) }
 {
     let mut scratch = Scratch::new(alloc);
     let mut tokens = Tokens::of(alloc, part.text, &mut scratch)?;
-    let mut elements = Elements::new(alloc);
+    let mut elements = Elements::new(alloc, BLOCK);
     let end = elements.take(&mut tokens, part.format, part.depth)?;
     match end {
         End::Text if !elements.too_many => Ok(elements.items),

@@ -2,11 +2,12 @@
 ghost use Rattle.std.specs.Prelude.{◌≡◌, ◌≢◌, ◌<◌, ◌↔◌, length, IfOk, IfErr, Ok, Err, All};
 ghost use Rattle.span_read.specs.{IsGoodItem, Document.doc, Time.IsItemInRange, declared.error.ReadError.TheVariants.{TooLarge, Memory}};
 
+use crate::blocks::{BLOCK, ItemBlocks};
 use crate::error::ReadError;
-use crate::file::{read_bytes, read_items_in};
+use crate::file::read_bytes;
 use crate::format::Format;
+use crate::in_one::InOne;
 use crate::parts::InParts;
-use span_event::Items;
 use std::alloc::Global;
 use std::thread::Threads;
 
@@ -18,7 +19,7 @@ pub struct Reading {
     pub parts: u32,
 }
 
-/// The items of a trace file as `read_items_in` gives them, in less time where several processors are granted.
+/// The items of a trace file as `read_items_in` gives them, but in blocks, and in less time where several processors are granted.
 ///
 /// The file is cut at commas between two objects, and its parts are read by so many threads, or by fewer where no more can be had. If it
 /// can't be cut, or was cut within an element, it is read in one.
@@ -27,7 +28,7 @@ pub fn read_items_in_parts<R: Threads + Sync>(
     alloc: Global,
     reading: Reading,
     bytes: &[u8],
-) -> Result<Items, ReadError>
+) -> Result<ItemBlocks, ReadError>
     ensures items { IfOk result (λ items. doc reading.format bytes.now ≡ Ok items) }
     ensures refused { IfErr result (λ error. error ≢ Memory
         → doc reading.format bytes.now ≡ Err error) }
@@ -36,7 +37,7 @@ pub fn read_items_in_parts<R: Threads + Sync>(
     ensures too_large { (result ≡ Err TooLarge) ↔ (reading.format.most_bytes < length bytes.now) }
 {
     if reading.parts < 2 {
-        return read_items_in(alloc, reading.format, bytes);
+        return read_bytes(&InOne { block: BLOCK }, alloc, reading.format, bytes);
     }
     let reader = InParts {
         rt,

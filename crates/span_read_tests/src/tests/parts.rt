@@ -1,5 +1,5 @@
 //! Texts that are read in parts, wherever they are cut.
-use span_read::{Format, Reading, Unit, read_items_in, read_items_in_parts};
+use span_read::{Format, ItemBlocks, Items, Reading, Unit, read_items_in, read_items_in_parts};
 use std::alloc::{AllocError, AllocGlobal, Global};
 use std::process::Abort;
 use std::test::Fail;
@@ -45,6 +45,18 @@ fn shifted(alloc: Global, text: &str, blanks: usize) -> Result<String, AllocErro
     Ok(shifted)
 }
 
+fn as_list(alloc: Global, items: ItemBlocks) -> Result<Items, AllocError> {
+    let mut list = Vec::new(alloc);
+    let count = items.len();
+    let mut items = items.into_remaining();
+    for _ in 0..count {
+        if let Some(item) = items.next() {
+            list.push(item)?;
+        }
+    }
+    Ok(Items::of_list(list))
+}
+
 // What a file is in one part has so many items, or this number; and in several parts it is the same.
 fn is_the_same(
     rt: &(impl Threads + Sync + Abort + AllocGlobal),
@@ -63,6 +75,7 @@ fn is_the_same(
     match (in_one, in_parts) {
         (Ok(in_one), Ok(in_parts)) => {
             assert_eq!(rt; Ok(in_one.len()), wanted);
+            let in_parts = as_list(alloc, in_parts)?;
             let one = format!(in alloc; "{in_one:?}");
             let other = format!(in alloc; "{in_parts:?}");
             drop(in_one);

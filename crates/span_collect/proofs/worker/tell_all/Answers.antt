@@ -6,7 +6,7 @@ use Rattle.span_collect.proofs.worker.tell_all.Goals as goal
 -- nothing was told
 pub items-init : goal.items-init
 items-init g c =
-    let all = c.of-remaining.ensures in
+    let all = c.into_remaining-remaining.ensures in
     record {
       told = [];
       all = all;

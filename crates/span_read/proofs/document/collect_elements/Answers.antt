@@ -39,9 +39,9 @@ returns-clause-found c =
     let read = rw is at c.requires in
     let unit : m.unit ≡ format.unit = grind arith in
     let depth : m.depth ≡ c.args.depth - 1 = omega (arith, c.if-middle-depth.false) in
-    let middle : AreElements format.unit (c.args.depth - 1) m.text.now m.items.items = subst₂ (λ u d. AreElements u d m.text.now m.items.items) unit depth read in
+    let middle : AreElements format.unit (c.args.depth - 1) m.text.now m.items = subst₂ (λ u d. AreElements u d m.text.now m.items) unit depth read in
     let after = left_with-whole c.take-2.new.self c.take-3.new.tokens.reader c.take-2.ensures.after in
-    let all : (cs ms bs : List Data) → Adds format c.new-elements.result c.take.new.self cs → map (item_of_data format.unit) ms ≡ m.items.items → Adds format c.add.new.self c.take-3.new.self bs → Adds format c.new-elements.result c.take-3.new.self (cs ++ (ms ++ bs)) =
+    let all : (cs ms bs : List Data) → Adds format c.new-elements.result c.take.new.self cs → map (item_of_data format.unit) ms ≡ m.items → Adds format c.add.new.self c.take-3.new.self bs → Adds format c.new-elements.result c.take-3.new.self (cs ++ (ms ++ bs)) =
     λ cs ms bs p q r. Adds-both format _ c.take.new.self _ cs (ms ++ bs) p (Adds-both format _ c.add.new.self _ ms bs (c.in_ok-add.ensures ms q) r) in
     let joined = TakesUpTo-joined (c.args.depth - 1) _ _ _ _ all c.args.text.now.tokens.reader (tokens m.text.now) first.1 middle.read middle.good c.in_ok-end-2.end m.rest c.take-3.new.tokens.reader c.in_ok-end-2.ensures.taken in
     let found : TakesElements c.in_ok-end-2.end c.args.depth (left_with c.args.text.now.tokens.reader (Some m)) c.take-3.new.tokens.reader (λ ds. c.found-2.result ≡ doc_of_elements format (Some ds)) =

@@ -41,7 +41,7 @@ elements-smaller c =
 pub elements-preserved : goal.elements-preserved
 elements-preserved c =
     let taken = c.in_ok-item.ensures.item in
-    let pushed : c.push.new.self.items ≡ c.elements.self.items.items ++ item_of_data c.args.format.unit taken.0 ∷ [] = c.in_ok-push.ensures.items ∙ ap (λ i. c.elements.self.items.items ++ i ∷ []) (sym taken.2) in
+    let pushed : c.push.new.self ≡ c.elements.self.items ++ item_of_data c.args.format.unit taken.0 ∷ [] = c.in_ok-push.ensures.items ∙ ap (λ i. c.elements.self.items ++ i ∷ []) (sym taken.2) in
     ended_turn c.args.depth c.requires _ c.args.tokens.now.reader c.elements.tokens.reader c.elements.invariant c.in-Some.token c.next.new.self c.in-Some.ensures.value c.in_default-token.not-EndArray _ c.read_item.new.tokens.reader
     (taken.0, taken.1, λ ds added. Adds-push c.args.format c.args.self.now c.elements.self _ ds taken.0 added (omega arith) pushed refl)
 
