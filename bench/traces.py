@@ -1,5 +1,6 @@
 """What the benchmarks share: traces made of events such as tracers write, and the cost of a process that reads one."""
 import os
+import shutil
 import subprocess
 import time
 
@@ -10,6 +11,8 @@ END = '],"beginningOfTime":1}'
 TURNS = 3
 # What lets a command have the first processor alone.
 ON_ONE_PROCESSOR = ["taskset", "-c", str(min(os.sched_getaffinity(0)))]
+# Readers in Rust, for comparison.
+RUST_READERS = os.path.join(os.path.dirname(os.path.abspath(__file__)), "names_reader")
 # A file of the largest size that is read, but for a little.
 LARGEST = 67_108_000
 
@@ -124,3 +127,11 @@ def measured(command, path):
         _, status, usage = os.wait4(process.pid, 0)
         seconds = time.monotonic() - started
     return (seconds, usage.ru_maxrss * 1024, usage.ru_utime + usage.ru_stime) if status == 0 else None
+
+
+def rust_reader(name, folder):
+    """The reader of this name, built in the folder, or None where it can't be built here."""
+    if not shutil.which("cargo"):
+        return None
+    built = subprocess.run(["cargo", "build", "--quiet", "--release", "--offline", "--target-dir", folder], cwd=RUST_READERS)
+    return os.path.join(folder, "release", name) if built.returncode == 0 else None

@@ -1,5 +1,6 @@
 //! Reads a trace from standard input and counts its items by kind: a program to be timed.
-//! With the word `json` the text is only parsed. With the word `parts` it is read in a part for each processor that the system grants.
+//! With the word `json` the text is only parsed. With the word `parts` it is read in a part for each processor that the system grants,
+//! with the word `timed` behind the counts it says how long the reading alone took, without that of standard input.
 #![tactic(auto)]
 
 use serde_json::Value;
@@ -8,6 +9,7 @@ use span_read::{Format, ItemBlocks, ReadError, Reading, Unit, read_items_in_part
 use std::alloc::Global;
 use std::io::{self, Read};
 use std::thread::Threads;
+use std::time::Instant;
 use std::{env, str, thread};
 
 // How many items are good events, faults, and other events.
@@ -52,19 +54,33 @@ fn processors<R: Threads>(rt: &R) -> u32 {
     }
 }
 
+fn has_word(rt: &HostRuntime, word: &str) -> io::Result<bool> {
+    Ok(env::args(rt)?.any(|given| given.as_str() == word))
+}
+
 fn main(rt: HostRuntime) -> io::Result<()> {
     let alloc = rt.alloc();
     let mut bytes = Vec::new(alloc);
     rt.stdin().read_to_end(&mut bytes)?;
-    let only_parses = env::args(&rt)?.any(|word| word.as_str() == "json");
-    if only_parses {
+    if has_word(&rt, "json")? {
         let is_json = is_json(alloc, &bytes);
         return println!(rt; "json {is_json}");
     }
-    let parted = env::args(&rt)?.any(|word| word.as_str() == "parts");
+    let parts = if has_word(&rt, "parts")? {
+        processors(&rt)
+    } else {
+        1
+    };
     let reading = Reading {
         format: Format::of(Unit::Microseconds),
-        parts: if parted { processors(&rt) } else { 1 },
+        parts,
     };
-    print_counts(&rt, read_items_in_parts(&rt, alloc, reading, &bytes))
+    let begun = Instant::now(&rt)?;
+    let read = read_items_in_parts(&rt, alloc, reading, &bytes);
+    let took = begun.elapsed(&rt)?.as_micros();
+    print_counts(&rt, read)?;
+    if has_word(&rt, "timed")? {
+        println!(rt; "microseconds {took}")?;
+    }
+    Ok(())
 }
