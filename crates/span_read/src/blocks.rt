@@ -9,7 +9,7 @@ use std::marker::Model;
 use std::mem::replace;
 use std::vec::IntoIter;
 
-/// How many items a block has at most where they are told one by one: a block takes less than half a megabyte.
+/// How many items a block has at most where they are told one by one: it takes half a MiB.
 pub(crate) const BLOCK: usize = 4096;
 
 /// Items in their order, in blocks of memory.

@@ -6,7 +6,7 @@ ghost use Rattle.span_read.specs.{Document.doc_of_document, Ending.ended, Parts.
 
 use crate::blocks::{BLOCK, ItemBlocks};
 use crate::candidates::{MAX_DEPTH, TextReader, opens_with};
-use crate::cuts::{first_cut, last_cut};
+use crate::cuts::{first_cut, key_of_elements, last_cut};
 use crate::divided::{Divided, Middle};
 use crate::document::read_all;
 use crate::elements::{Elements, End, Found};
@@ -50,6 +50,8 @@ impl<R: Threads + Sync> TextReader for InParts<'_, R> {
 #[derive(Clone, Copy)]
 struct Part<'a> {
     text: &'a str,
+    /// What the elements begin with behind which it is cut.
+    key: &'a str,
     format: Format,
     depth: usize,
     parts: u32,
@@ -66,10 +68,11 @@ fn read_divided<R: Threads + Sync>(
     ensures { IfOk result (λ found. found ≢ Err NotJson
         → found ≡ doc_of_document format (read (if bracket then text.now ++ 93 ∷ [] else text.now))) }
 {
-    let Some((front, others)) = first_cut(text, 0) else {
+    let key = key_of_elements(text);
+    let Some((front, others)) = first_cut(text, 0, key) else {
         return Err(Stop::NotJson);
     };
-    let Some((middle, rest)) = last_cut(others) else {
+    let Some((middle, rest)) = last_cut(others, key) else {
         return Err(Stop::NotJson);
     };
     let depth = if opens_with(text, b'[') {
@@ -79,6 +82,7 @@ fn read_divided<R: Threads + Sync>(
     };
     let part = Part {
         text: middle,
+        key,
         format,
         depth,
         parts: reader.parts,
@@ -131,7 +135,7 @@ fn read_part<R: Threads + Sync>(rt: &R, alloc: Global, part: Part) -> Result<Ite
     }
     let half = part.parts / 2;
     let from = part.text.len() / part.parts as usize * half as usize;
-    let Some((front, back)) = first_cut(part.text, from) else {
+    let Some((front, back)) = first_cut(part.text, from, part.key) else {
         return read_elements(alloc, part);
     };
     let front = Part {

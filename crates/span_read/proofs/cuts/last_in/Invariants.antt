@@ -1,5 +1,5 @@
 use Rattle.std.proofs.Common.{◌≤◌, length}
-use Rattle.span_read.proofs.cuts.last_cut.Given as goal
+use Rattle.span_read.proofs.cuts.last_in.Given as goal
 
 abbrev pub invariant-loop-place : goal.invariant-loop-place
 invariant-loop-place l = l.place ≤ length l.text
