@@ -71,6 +71,19 @@ def async_event(place):
     )
 
 
+def stack_event(place):
+    """A complete event as DevTools records it, with a stack trace: a list of objects within the element."""
+    frames = ",".join(
+        '{"columnNumber":%d,"functionName":"f%d","lineNumber":%d,"scriptId":"%d","url":"https://example.org/app.js"}'
+        % (place % 80, (place + depth) % 300, place % 900, place % 7)
+        for depth in range(3)
+    )
+    return (
+        '{"args":{"data":{"stackTrace":[%s]}},"cat":"devtools.timeline","dur":%d,"name":"FunctionCall","ph":"X","pid":7000,"tid":%d,"ts":%d}'
+        % (frames, place % 4000, place % 16, 1000 + 13 * place)
+    )
+
+
 def clang_event(place):
     """A complete event as clang's -ftime-trace writes it, on one thread."""
     return '{"pid":4242,"tid":4242,"ph":"X","ts":%d,"dur":%d,"name":"Source","args":{"detail":"/usr/include/c++/12/bits/header_%d.h"}}' % (
