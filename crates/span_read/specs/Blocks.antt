@@ -1,5 +1,5 @@
 -- Items that are kept in blocks; for private clauses.
-use Rattle.std.specs.{Global.Vec, Prelude.{◌≡◌, List, [], ◌++◌, flat_map, Option, Some, None}}
+use Rattle.std.specs.{Global.Vec, Prelude.{◌≡◌, List, [], flat_map, Option, Some, None}}
 use Rattle.span_read.specs.{Item}
 
 -- the items of blocks, one block after another

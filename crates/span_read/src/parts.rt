@@ -14,10 +14,15 @@ use crate::error::ReadError;
 use crate::error::stop::Stop;
 use crate::format::Format;
 use crate::in_one::read_text;
+use crate::recent::RecentTexts;
 use crate::tokens::Tokens;
 use json::{Reader, Scratch};
 use std::alloc::Global;
+use std::mem::replace;
 use std::thread::{Threads, join_mut};
+
+/// A part is read in pieces of little more than so many bytes.
+const PIECE: usize = 1 << 21;
 
 /// Reads texts in so many parts. Where a text can't be cut, or was cut where it can't be, it is read in one.
 #[derive(Drop)]
@@ -186,16 +191,49 @@ fn read_both<R: Threads + Sync>(
     )
 }
 
-/// The items of the elements, which are read in one.
+/// The items of the elements, which are read piece by piece, so that the room for strings with escapes is that of one piece.
 fn read_elements(alloc: Global, part: Part) -> Result<ItemBlocks, Stop>
     requires { 0 < part.depth }
     ensures { IfOk result (λ items.
         AreElements part.entry.format.unit (part.entry.depth - 1) part.entry.text.now items) }
 {
     let mut scratch = Scratch::new(alloc);
-    let mut tokens = Tokens::of(alloc, part.text, &mut scratch)?;
+    let mut recent = RecentTexts::new(alloc)?;
+    let mut items = ItemBlocks::new(alloc, BLOCK);
+    let mut rest = part.text;
+    'pieces: while let Some((front, behind)) = first_cut(rest, PIECE, part.key) {
+        let piece = Part {
+            text: front,
+            ..part
+        };
+        items.join(read_piece(alloc, &mut scratch, &mut recent, piece)?)?;
+        rest = behind;
+    }
+    let last = Part { text: rest, ..part };
+    items.join(read_piece(alloc, &mut scratch, &mut recent, last)?)?;
+    Ok(items)
+}
+
+/// The items of the elements, which are read in one. Strings may share their bytes with recent ones.
+fn read_piece(
+    alloc: Global,
+    scratch: &mut Scratch,
+    recent: &mut RecentTexts,
+    piece: Part,
+) -> Result<ItemBlocks, Stop>
+    requires { 0 < piece.depth }
+    ensures { IfOk result (λ items.
+        AreElements piece.entry.format.unit (piece.entry.depth - 1) piece.entry.text.now items) }
+{
+    let mut tokens = Tokens {
+        reader: Reader::new(piece.text, scratch)?,
+        alloc,
+        recent: replace(recent, RecentTexts::none(alloc)),
+        pairs: Vec::new(alloc),
+    };
     let mut elements = Elements::new(alloc, BLOCK);
-    let end = elements.take(&mut tokens, part.format, part.depth)?;
+    let end = elements.take(&mut tokens, piece.format, piece.depth)?;
+    *recent = tokens.recent;
     match end {
         End::Text if !elements.too_many => Ok(elements.items),
         _ => Err(Stop::NotJson),

@@ -22,6 +22,13 @@ impl RecentTexts {
         Ok(RecentTexts { places })
     }
 
+    /// Of which no text is found. Takes no memory.
+    pub(crate) fn none(alloc: Global) -> RecentTexts {
+        RecentTexts {
+            places: Vec::new(alloc),
+        }
+    }
+
     /// A text of these bytes: of a long one a copy of that which was read before, if it is still there.
     #[inline]
     pub(crate) fn text(&mut self, alloc: Global, text: &str) -> Result<Text, AllocError>
