@@ -22,7 +22,7 @@ use std::mem::replace;
 use std::thread::{Threads, join_mut};
 
 /// A part is read in pieces of little more than so many bytes.
-const PIECE: usize = 1 << 21;
+const PIECE: usize = 1 << 18;
 
 /// Reads texts in so many parts. Where a text can't be cut, or was cut where it can't be, it is read in one.
 #[derive(Drop)]
