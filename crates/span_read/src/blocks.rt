@@ -1,5 +1,5 @@
 //! Items in blocks: a list that grows without moving what it has, and whose memory is let go while it is gone through.
-ghost use Rattle.std.specs.Prelude.{◌≡◌, ◌∷◌, ◌++◌, ◌+◌, ◌<◌, ◌≤◌, [], length, All, IfOk, IfSome, IfNone, OnOk, vec_len, vec_capacity};
+ghost use Rattle.std.specs.Prelude.{◌≡◌, ◌∷◌, ◌++◌, ◌+◌, ◌<◌, ◌≤◌, [], length, All, IfOk, IfSome, IfNone, OnErr, OnOk, vec_len, vec_capacity};
 ghost use Rattle.std.specs.Vec.Iter.{into_iter_items};
 ghost use Rattle.span_read.specs.Blocks.{HasItems, in_blocks, of_block};
 
@@ -11,6 +11,9 @@ use std::vec::IntoIter;
 
 /// How many items a block has at most where they are told one by one: it takes half a MiB.
 pub(crate) const BLOCK: usize = 4096;
+
+/// A block of more items gets all its room at once: the system has it back as soon as it is let go.
+const FEW: usize = 64;
 
 /// Items in their order, in blocks of memory.
 #[derive(Debug, Drop)]
@@ -65,7 +68,7 @@ impl ItemBlocks {
             let block = Vec::with_capacity(self.alloc, self.size)?;
             self.full.push_reserved(replace(&mut self.last, block));
         }
-        self.last.push(item)?;
+        push_item(&mut self.last, item, self.size)?;
         self.len = len;
         Ok(())
     }
@@ -111,6 +114,18 @@ impl ItemBlocks {
             last: Some(self.last),
         }
     }
+}
+
+// Puts an item into a block, which has room for all once it has more than few, if blocks have a bound.
+fn push_item(block: &mut Vec<Item>, item: Item, size: usize) -> Result<(), AllocError>
+    ensures items { OnOk result (block.new.items ≡ block.old.items ++ item ∷ []) }
+    ensures err { OnErr result (block.new.items ≡ block.old.items) }
+{
+    if block.len() == FEW && size == BLOCK {
+        block.reserve(BLOCK - FEW)?;
+    }
+    block.push(item)?;
+    Ok(())
 }
 
 // Puts a block behind the others, if it has an item.
