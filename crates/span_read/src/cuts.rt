@@ -10,11 +10,14 @@ use crate::candidates::opens_with;
 /// So many bytes are looked through for a cut behind which an element begins as the first does, before any other is taken.
 const NEAR: usize = 1 << 18;
 
-/// What stands in the first element of a trace before its first colon, without the brace; no text where that can't be told.
+/// A key of more bytes isn't looked for, since it would be compared with as many behind each comma.
+const LONGEST_KEY: usize = 64;
+
+/// What stands in the first element of a trace before its first colon, without the brace; no text where that can't be told, or is long.
 pub(crate) fn key_of_elements(text: &str) -> &str {
     match first_key(text) {
-        Some(key) => key,
-        None => "",
+        Some(key) if key.len() <= LONGEST_KEY => key,
+        _ => "",
     }
 }
 
