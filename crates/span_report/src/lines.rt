@@ -1,10 +1,10 @@
 //! The lines of a report: one for each row, appended to a text.
 ghost use Rattle.std.specs.Prelude.{◌≡◌, ◌++◌, ℕ, List, string_bytes, OnOk, IfOk};
-ghost use Rattle.span_report.specs.Lines.{first_line, unit_line, count_line, seals_line, process_line, thread_line, span_line, or_dash, json_text_of, reach_text, instant_line, id_text, counter_line, samples_text, async_line, flow_line};
+ghost use Rattle.span_report.specs.Lines.{first_line, unit_line, process_line, thread_line, span_line, or_dash, json_text_of, reach_text, instant_line, id_text, counter_line, samples_text, async_line, flow_line};
 
 use serde_json::Value;
 use span_event::{BoxedId, Reach, Text, Unit};
-use span_journal::{CountRow, ProcessRow, SpanRow, ThreadRow};
+use span_journal::{ProcessRow, SpanRow, ThreadRow};
 use span_keyed_tracks::{AsyncRow, FlowRow, InstantRow, SeriesRow, SeriesTotals};
 use std::alloc::{AllocError, Global};
 
@@ -52,35 +52,6 @@ pub fn put_unit(out: &mut String, unit: Unit) -> Result<(), AllocError>
         Unit::Microseconds => Ok(()),
         Unit::Nanoseconds => out.push_str("unit nanoseconds\n"),
     }
-}
-
-/// Appends the line that counts a journal's entries.
-#[tactic(auto, unfolding(crate::specs::Lines::count_line))]
-pub fn put_counts(out: &mut String, row: CountRow) -> Result<(), AllocError>
-    ensures { OnOk result (string_bytes out.new ≡ string_bytes out.old ++ count_line row) }
-{
-    let CountRow {
-        accepted,
-        refused,
-        skipped,
-        queries,
-        seals: _,
-    } = row;
-    writeln!(
-        out,
-        "events {accepted} refused {refused} skipped {skipped} queries {queries}"
-    )
-}
-
-/// Appends the line of seals, where spans were sealed.
-#[tactic(auto, unfolding(crate::specs::Lines::seals_line))]
-pub fn put_seals(out: &mut String, seals: u32) -> Result<(), AllocError>
-    ensures { OnOk result (string_bytes out.new ≡ string_bytes out.old ++ seals_line seals) }
-{
-    if seals == 0 {
-        return Ok(());
-    }
-    writeln!(out, "seals {seals}")
 }
 
 impl Printed for ProcessRow {

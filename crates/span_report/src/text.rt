@@ -2,9 +2,9 @@
 ghost use Rattle.std.specs.Prelude.{◌≡◌, ◌++◌, string_bytes, flat_map, OnOk, IfOk};
 ghost use Rattle.span_report.specs.{async_rows, flow_rows, rows_by_process, Lines.{async_line, flow_line}, Report.{head_lines, process_lines, report_of, thread_lines}};
 
-use crate::lines::{Printed, first_line, put_counts, put_seals, put_unit};
+use crate::counts::{EntryCounts, head};
+use crate::lines::Printed;
 use span_event::Unit;
-use span_journal::CountRow;
 use span_ledger::{Ledger, ProcessRows, ThreadRows};
 use std::alloc::{AllocError, Global};
 
@@ -12,7 +12,7 @@ use std::alloc::{AllocError, Global};
 pub fn report(alloc: Global, unit: Unit, ledger: &Ledger) -> Result<Vec<u8>, AllocError>
     ensures { IfOk result (λ text. text.items ≡ report_of unit ledger.now.journal) }
 {
-    let mut out = head(alloc, unit, ledger.counts())?;
+    let mut out = head(alloc, unit, &EntryCounts::of(ledger.counts()))?;
     put_processes(alloc, ledger, &mut out)?;
     put_keys(alloc, ledger, &mut out)?;
     Ok(out.into_bytes())
@@ -49,20 +49,9 @@ pub fn report_text(
     requires { processes.now ≡ rows_by_process ledger.now.journal }
     ensures { IfOk result (λ text. string_bytes text ≡ report_of unit ledger.now.journal) }
 {
-    let mut out = head(alloc, unit, ledger.counts())?;
+    let mut out = head(alloc, unit, &EntryCounts::of(ledger.counts()))?;
     put_each(alloc, &mut out, processes)?;
     put_keys(alloc, ledger, &mut out)?;
-    Ok(out)
-}
-
-/// The lines that every report begins with.
-pub fn head(alloc: Global, unit: Unit, counts: CountRow) -> Result<String, AllocError>
-    ensures { IfOk result (λ text. string_bytes text ≡ head_lines unit counts) }
-{
-    let mut out = first_line(alloc)?;
-    put_unit(&mut out, unit)?;
-    put_counts(&mut out, counts)?;
-    put_seals(&mut out, counts.seals)?;
     Ok(out)
 }
 

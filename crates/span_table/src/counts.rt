@@ -4,60 +4,8 @@ ghost use Rattle.span_table.specs.{Counts.{counts_fit, entry_counts_fit}, Tables
 
 use crate::run::LedgerRun;
 use crate::wide::{is_narrow, plus};
-use span_journal::CountRow;
+use span_report::EntryCounts;
 use std::alloc::AllocError;
-use std::marker::Model;
-
-/// How many entries of each kind the journals of runs hold.
-#[derive(Clone, Copy, Debug, PartialEq, Eq)]
-pub struct EntryCounts {
-    /// Events that are taken into account.
-    pub accepted: u128,
-    /// Elements that were refused, with whatever number.
-    pub refused: u128,
-    /// Elements that have no effect.
-    pub skipped: u128,
-    /// Queries.
-    pub queries: u128,
-    /// Seals that closed spans.
-    pub seals: u128,
-}
-
-impl Model for EntryCounts {
-    ghost use Rattle.span_table.specs.{CountRow};
-
-    ghost Value = { CountRow };
-
-    ghost view = { λ c. record { accepted = c.accepted; refused = c.refused; skipped = c.skipped; queries = c.queries; seals = c.seals } };
-
-    ghost inverse = { λ n. record { accepted = n.accepted; refused = n.refused; skipped = n.skipped; queries = n.queries; seals = n.seals } };
-}
-
-impl EntryCounts {
-    fn of(row: CountRow) -> EntryCounts
-        ensures { result ≡ row }
-    {
-        EntryCounts {
-            accepted: u128::from(row.accepted),
-            refused: u128::from(row.refused),
-            skipped: u128::from(row.skipped),
-            queries: u128::from(row.queries),
-            seals: u128::from(row.seals),
-        }
-    }
-
-    fn plus(&self, more: &EntryCounts) -> Result<EntryCounts, AllocError>
-        ensures { IfOk result (λ sum. sum ≡ entry_counts_together (self.now ∷ more.now ∷ [])) }
-    {
-        Ok(EntryCounts {
-            accepted: plus(self.accepted, more.accepted)?,
-            refused: plus(self.refused, more.refused)?,
-            skipped: plus(self.skipped, more.skipped)?,
-            queries: plus(self.queries, more.queries)?,
-            seals: plus(self.seals, more.seals)?,
-        })
-    }
-}
 
 /// What a table counts beside its spans, over its runs.
 #[derive(Clone, Copy, Debug, PartialEq, Eq)]
@@ -107,9 +55,22 @@ impl TableCounts {
             runs: plus(self.runs, more.runs)?,
             files: plus(self.files, more.files)?,
             unread: plus(self.unread, more.unread)?,
-            entries: self.entries.plus(&more.entries)?,
+            entries: both(&self.entries, &more.entries)?,
         })
     }
+}
+
+// The counts of some journals and of others.
+fn both(some: &EntryCounts, more: &EntryCounts) -> Result<EntryCounts, AllocError>
+    ensures { IfOk result (λ sum. sum ≡ entry_counts_together (some.now ∷ more.now ∷ [])) }
+{
+    Ok(EntryCounts {
+        accepted: plus(some.accepted, more.accepted)?,
+        refused: plus(some.refused, more.refused)?,
+        skipped: plus(some.skipped, more.skipped)?,
+        queries: plus(some.queries, more.queries)?,
+        seals: plus(some.seals, more.seals)?,
+    })
 }
 
 /// Whether the counts have 64 bits.

@@ -23,7 +23,7 @@ mod wide;
 
 pub use audience::Audience;
 pub use column::{Column, copies_of, copy_of, words_of};
-pub use counts::{EntryCounts, TableCounts, counts_fit};
+pub use counts::{TableCounts, counts_fit};
 pub use groups::Groups;
 pub use key::Key;
 pub use merging::merged;
@@ -35,6 +35,7 @@ pub use schema::Schema;
 pub use span_event::{ArgValue, Text};
 pub use span_ledger::Ledger;
 pub use span_names::HashKeys;
+pub use span_report::EntryCounts;
 pub use sums::{Sums, fits};
 pub use table::{Row, Table};
 pub use table_sum::{SumFault, TableSum};

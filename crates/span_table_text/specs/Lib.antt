@@ -10,7 +10,6 @@ pub mod Tokens
 pub use Rattle.span_event.specs.{Args.as_text, Text.Bytes, declared.{args.ArgValue.{ArgValue, TheVariants.{Flag, Nil, Other, Whole, Words}}, unit.Unit.{Unit, TheVariants.{Microseconds, Nanoseconds}}}}
 pub use Rattle.span_keyed_tracks.specs.{Keyed.{Keyed, ascending, entry_of, keys_in, steps_at}, declared.keys.AsyncKey.AsyncKey}
 pub use Rattle.span_journal.specs.{Journal.accepted, Legal.IsLegal, Rows.{async_rows, longest_async, names_of, thread_keys}, Timed.{Timed, timed_spans}, Told.thread_events, declared.rows.CountRow.CountRow}
-unfoldable pub use Rattle.span_report.specs.Lines.{count_line, seals_line}
 pub use Rattle.span_report.specs.{Lines.{line_of, or_dash, right_in}, Report.head_lines}
 pub use Rattle.span_self_time.specs.Spans.{Span}
 pub use Rattle.span_track.specs.Nesting.{closed_spans}

@@ -1,34 +1,10 @@
 //! What the heads of texts for people have in common, and words in a width.
 ghost use Rattle.std.specs.Prelude.{◌≡◌, ◌++◌, string_bytes, OnOk};
-ghost use Rattle.span_table_text.specs.{count_line, right_in, seals_line, Lines.{runs_line, shown_line}};
+ghost use Rattle.span_table_text.specs.{right_in, Lines.{runs_line, shown_line}};
 
 use crate::shown::Shown;
-use span_table::{EntryCounts, TableCounts};
+use span_table::TableCounts;
 use std::alloc::AllocError;
-
-/// Appends the line that counts the entries of runs.
-#[tactic(auto, unfolding(span_report::specs::Lines::count_line))]
-pub fn put_counts(out: &mut String, entries: &EntryCounts) -> Result<(), AllocError>
-    ensures { OnOk result (string_bytes out.new ≡ string_bytes out.old ++ count_line entries.now) }
-{
-    let (accepted, refused) = (entries.accepted, entries.refused);
-    let (skipped, queries) = (entries.skipped, entries.queries);
-    writeln!(
-        out,
-        "events {accepted} refused {refused} skipped {skipped} queries {queries}"
-    )
-}
-
-/// Appends the line of seals, where spans were sealed.
-#[tactic(auto, unfolding(span_report::specs::Lines::seals_line))]
-pub fn put_seals(out: &mut String, seals: u128) -> Result<(), AllocError>
-    ensures { OnOk result (string_bytes out.new ≡ string_bytes out.old ++ seals_line seals) }
-{
-    if seals == 0 {
-        return Ok(());
-    }
-    writeln!(out, "seals {seals}")
-}
 
 /// Appends the line of runs, where the head says how many there are.
 #[tactic(auto, unfolding(crate::specs::Lines::runs_line))]

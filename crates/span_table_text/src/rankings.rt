@@ -1,13 +1,13 @@
 //! The text of a ranking: the rows of a table that come first by a number.
 ghost use Rattle.std.specs.{List.IsDistinct, Ordering.eq_by_cmp, Prelude.{◌≡◌, ◌++◌, string_bytes, take, flat_map, OnOk, IfOk}};
-ghost use Rattle.span_table_text.specs.{head_lines, Ranking.{ranked_line, ranking_of}, Ranks.{ranking_order, ranked}};
+ghost use Rattle.span_table_text.specs.{Ranking.{ranked_line, ranking_of}, Ranks.{ranking_order, ranked}};
 
-use crate::lines::{put_counts, put_runs, put_seals, put_shown};
+use crate::lines::{put_runs, put_shown};
 use crate::rows::{number_titles, put_row, put_titles, value_cells};
 use crate::shown::{Shown, ShownRow};
 use span_event::Unit;
-use span_report::{first_line, put_unit};
-use span_table::{EntryCounts, Number, Schema, Table};
+use span_report::head;
+use span_table::{Number, Schema, Table};
 use std::alloc::{AllocError, Global};
 use std::cmp::Ordering;
 
@@ -40,17 +40,6 @@ pub fn ranking(
     let first = first_ranked(&mut rows, by, most as usize);
     put_rows(alloc, &mut out, schema, first)?;
     Ok(out.into_bytes())
-}
-
-// The lines that every report begins with.
-fn head(alloc: Global, unit: Unit, entries: &EntryCounts) -> Result<String, AllocError>
-    ensures { IfOk result (λ text. string_bytes text ≡ head_lines unit entries.now) }
-{
-    let mut out = first_line(alloc)?;
-    put_unit(&mut out, unit)?;
-    put_counts(&mut out, entries)?;
-    put_seals(&mut out, entries.seals)?;
-    Ok(out)
 }
 
 // Which of two comes first.

@@ -8,7 +8,7 @@ use crate::files::{FileEnd, Input};
 use crate::words::numbered_text;
 use span_event::{Text, Unit};
 use span_ledger::Ledger;
-use span_report::{head, json_text};
+use span_report::{EntryCounts, head, json_text};
 use std::alloc::{AllocError, Global};
 use std::collections::BTreeMap;
 
@@ -41,7 +41,7 @@ pub fn refusals_text(
     ensures { IfOk result (λ text. string_bytes text
         ≡ refusals_of unit files.now ends.now ledger.now.journal) }
 {
-    let mut out = head(alloc, unit, ledger.counts())?;
+    let mut out = head(alloc, unit, &EntryCounts::of(ledger.counts()))?;
     let tallies = tallies(alloc, ledger)?;
     for (place, file) in files.iter().enumerate() {
         put_file(alloc, &mut out, &file.name, ends[place], &tallies)?;
