@@ -59,14 +59,13 @@ impl<'a, R: Threads + Wait + RandomSource + Sync, S: Source + Sync> Place<'a, R,
             Ok(run) => run,
             Err(halt) => return Err(halt),
         };
-        let made = self.made_of_view(settings.format.unit, view, &run.inputs, &run.collected);
         let TogetherRun {
             inputs,
             collected,
             lines,
             hints,
         } = run;
-        drop(inputs);
+        let made = self.made_of_view(settings.format.unit, view, inputs, &collected);
         self.let_go(collected);
         match made {
             Ok(Made { text, warnings }) => Ok(Print {
@@ -146,41 +145,52 @@ impl<'a, R: Threads + Wait + RandomSource + Sync, S: Source + Sync> Place<'a, R,
         }
     }
 
-    // The text of this view of a run, and what is warned of behind it.
+    // The text of this view of a run, and what is warned of behind it. Files are dropped before a text is made that doesn't name them.
     fn made_of_view(
         &self,
         unit: Unit,
         view: &View,
-        files: &[Input],
+        files: Vec<Input>,
         collected: &Collected,
     ) -> Result<Made, Halt>
-        requires { length files.now ≡ length collected.now.end.ends.items }
-        ensures text { IfOk result (λ made. made.text.items ≡ text_of unit view.now files.now
+        requires { length files.items ≡ length collected.now.end.ends.items }
+        ensures text { IfOk result (λ made. made.text.items ≡ text_of unit view.now files.items
             collected.now.end.ends.items collected.now.ledger.journal) }
         ensures warnings { IfOk result (λ made. made.warnings.items ≡ warned_of_view view.now
-            files.now collected.now.end.ends.items collected.now.ledger.journal) }
-        ensures fits { IfOk result (λ made. Fits unit view.now files.now
+            files.items collected.now.end.ends.items collected.now.ledger.journal) }
+        ensures fits { IfOk result (λ made. Fits unit view.now files.items
             collected.now.end.ends.items collected.now.ledger.journal) }
-        ensures stop { IfErr result (OfStop (Exceeds unit view.now files.now
+        ensures stop { IfErr result (OfStop (Exceeds unit view.now files.items
             collected.now.end.ends.items collected.now.ledger.journal)) }
     {
-        let ledger = &collected.ledger;
+        let (alloc, ledger) = (self.alloc, &collected.ledger);
         match view {
-            View::Report { warns } => match report(self.alloc, unit, ledger) {
-                Ok(text) => made_with(self.alloc, text, *warns, files, collected),
-                Err(_) => Err(Halt::Memory),
-            },
-            View::Refusals => {
-                match refusals(self.alloc, unit, ledger, files, &collected.end.ends) {
-                    Ok(text) => made_with(self.alloc, text, false, files, collected),
+            View::Report { warns } => {
+                let Ok(warnings) = warned(alloc, *warns, files, collected) else {
+                    return Err(Halt::Memory);
+                };
+                match report(alloc, unit, ledger) {
+                    Ok(text) => Ok(Made { text, warnings }),
                     Err(_) => Err(Halt::Memory),
                 }
             }
-            View::Folded(labels) => match folded(self.alloc, ledger, labels) {
-                Ok(text) => made_with(self.alloc, text, true, files, collected),
-                Err(fault) => Err(halt_of_stacks(self.alloc, fault)),
-            },
-            View::Page(page) => self.made_of_page(unit, page, files, collected),
+            View::Refusals => {
+                let warnings = Vec::new(alloc);
+                match refusals(alloc, unit, ledger, &files, &collected.end.ends) {
+                    Ok(text) => Ok(Made { text, warnings }),
+                    Err(_) => Err(Halt::Memory),
+                }
+            }
+            View::Folded(labels) => {
+                let Ok(warnings) = warned(alloc, true, files, collected) else {
+                    return Err(Halt::Memory);
+                };
+                match folded(alloc, ledger, labels) {
+                    Ok(text) => Ok(Made { text, warnings }),
+                    Err(fault) => Err(halt_of_stacks(alloc, fault)),
+                }
+            }
+            View::Page(page) => self.made_of_page(unit, page, &files, collected),
         }
     }
 
@@ -251,34 +261,22 @@ impl<'a, R: Threads + Wait + RandomSource + Sync, S: Source + Sync> Place<'a, R,
     }
 }
 
-// A text, with warnings of the files behind it where they are wanted.
-fn made_with(
+// The lines that warn of these files, where they are wanted.
+fn warned(
     alloc: Global,
-    text: Vec<u8>,
     warns: bool,
-    files: &[Input],
+    files: Vec<Input>,
     collected: &Collected,
-) -> Result<Made, Halt>
-    requires { length files.now ≡ length collected.now.end.ends.items }
-    ensures text { IfOk result (λ made. made.text ≡ text) }
-    ensures warnings { IfOk result (λ made. made.warnings.items ≡ warned_if warns files.now
+) -> Result<Vec<u8>, AllocError>
+    requires { length files.items ≡ length collected.now.end.ends.items }
+    ensures { IfOk result (λ warnings. warnings.items ≡ warned_if warns files.items
         collected.now.end.ends.items collected.now.ledger.journal) }
-    ensures memory { IfErr result (λ halt. halt ≡ OutOfMemory) }
 {
     if !warns {
-        let warnings = Vec::new(alloc);
-        return Ok(Made { text, warnings });
+        return Ok(Vec::new(alloc));
     }
-    let Ok(refused) = warnings_of(alloc, &collected.ledger, files, &collected.end.ends) else {
-        return Err(Halt::Memory);
-    };
-    match warning_lines(alloc, &refused) {
-        Ok(lines) => Ok(Made {
-            text,
-            warnings: lines.into_bytes(),
-        }),
-        Err(_) => Err(Halt::Memory),
-    }
+    let refused = warnings_of(alloc, &collected.ledger, &files, &collected.end.ends)?;
+    Ok(warning_lines(alloc, &refused)?.into_bytes())
 }
 
 // A run was refused.
