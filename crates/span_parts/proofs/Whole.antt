@@ -1,7 +1,7 @@
 -- A part, from its first line and its rows.
 use Rattle.std.specs.Prelude.{All, flat_map}
-use Rattle.std.proofs.Common.{◌≡◌, ◌≢◌, List, [], ◌∷◌, ◌++◌, length, refl, sym, ap, subst, ◌∙◌, append_assoc, arith}
-use Rattle.json.specs.Print.{print}
+use Rattle.std.proofs.Common.{◌≡◌, ◌≢◌, ℕ, List, [], ◌∷◌, ◌++◌, length, refl, sym, ap, subst, ◌∙◌, append_assoc, arith}
+use Rattle.json.specs.Print.{print, print_from}
 use Rattle.span_table_text.proofs.PrintedLines.{json_head-print, print_head-line}
 use Rattle.span_parts.specs.{Bytes, Unit as TimeUnit, Row, Choice, with_counts, json_head, json_line, IsPart, IsRowOf, SpanTable, head_tokens, First.{Begins, MayBegin}, Rows.{AllAdded, AreRows, RowsFail}, Sum.{IsAdded, IsNoPart, SumFails}, declared.{fault.PartFault.{PartFault, TheVariants.{NotTable, OtherColumns, Memory, TooMany}}, guess.FirstLine.FirstLine}}
 use Rattle.span_parts.proofs.Added.{EndsLine}
@@ -9,6 +9,16 @@ use Rattle.span_parts.proofs.Added.{EndsLine}
 -- how a part begins
 pub begins_so : (unit : TimeUnit) (text : Bytes) (part : SpanTable) → IsPart unit text part → MayBegin part.schema (length part.rows) part.counts
 begins_so unit text part is = record { schema_fits = is.is.schema; few = is.is.few; counts_fit = is.is.counts }
+
+-- a text that begins with another byte than `{` is none
+pub IsNoPart-other : (byte : ℕ) (text : Bytes) → byte ≢ 123 → IsNoPart (byte ∷ text)
+unfolding print_from
+IsNoPart-other byte text other unit part is =
+    other (ap (first 123) (is.printed ∙ ap (λ l. l ++ flat_map (json_line part.schema) part.rows) (json_head-print part.schema unit (length part.rows) part.counts)))
+  where
+    first : ℕ → Bytes → ℕ
+    first none [] = none
+    first none (byte ∷ bytes) = byte
 
 -- a text without a line that ends is none
 pub IsNoPart-no_line : (text : Bytes) → ((xs ys : Bytes) → text ≡ xs ++ 10 ∷ ys → All (λ byte. byte ≢ 10) xs → ⊥) → IsNoPart text

@@ -1,6 +1,6 @@
 //! Where the bytes of files come from.
-ghost use Rattle.std.specs.Prelude.{◌≡◌, ◌≤◌, length, option_map, vec_items, vec_len, IfErr, IfOk};
-ghost use Rattle.span_runs.specs.{Folders.{FailsBelow, HasBelow, SourceFolders}, Source.{AreFirst, SourceBytes, printed}};
+ghost use Rattle.std.specs.Prelude.{◌≡◌, ◌≤◌, length, option_map, vec_items, vec_len, IfErr, IfOk, Some};
+ghost use Rattle.span_runs.specs.{Folders.{FailsBelow, HasBelow, SourceFolders}, Source.{AreBegun, AreFirst, SourceBytes, printed}};
 
 use span_event::Text;
 use span_faults::Reason;
@@ -62,6 +62,16 @@ pub trait Source {
     fn read(&self, name: &Name, most: u64) -> Result<Vec<u8>, SourceFault>
         ensures first { IfOk result (λ read. AreFirst most (bytes self.now name.now) read.items) }
         ensures within { IfOk result (λ read. vec_len read ≤ most) };
+
+    /// As `read`, but of bytes that don't begin with this one it may stop at the first.
+    fn read_begun(&self, name: &Name, most: u64, first: u8) -> Result<Vec<u8>, SourceFault>
+        ensures begun { IfOk result (λ read.
+            AreBegun (Some first) most (bytes self.now name.now) read.items) }
+        ensures within { IfOk result (λ read. vec_len read ≤ most) }
+    {
+        let _ = first;
+        self.read(name, most)
+    }
 
     /// How many bytes there are thought to be; 0, where that is not known. Nothing but time depends on it.
     fn size(&self, _name: &Name) -> u64 {

@@ -171,16 +171,16 @@ module _ (source : SourceBytes) where
   -- why a table was not added
   pub StopsAdding-part : (name : Name) (text : Bytes) (schema : Schema) (unit : TimeUnit) (fault : PartFault) → IsText source name text → PartFails schema unit text fault → (lines : Bytes) →
       SaysPart name fault lines → StopsAdding source (HasOtherSchema schema unit) name lines
-  StopsAdding-part name text schema unit NotTable read fails lines says = inr (inl (text, read, fails, says))
-  StopsAdding-part name text schema unit OtherColumns read fails lines says = inr (inr (text, read, fails, says))
+  StopsAdding-part name text schema unit NotTable read fails lines says = inl (inr (inr (text, read, fails, says)))
+  StopsAdding-part name text schema unit OtherColumns read fails lines says = inr (text, read, fails, says)
   StopsAdding-part name text schema unit Memory read fails lines says = absurd says
   StopsAdding-part name text schema unit TooMany read fails lines says = absurd says
 
   -- why a first table is none of the kind that is asked for
   pub StopsAdding-first : (name : Name) (text : Bytes) (asked : AskedParts) (fault : PartFault) → IsText source name text → FirstFails asked text fault → (lines : Bytes) →
       SaysPart name fault lines → StopsAdding source (LacksAsked asked) name lines
-  StopsAdding-first name text asked NotTable read fails lines says = inr (inl (text, read, fails, says))
-  StopsAdding-first name text asked OtherColumns read fails lines says = inr (inr (text, read, fails, says))
+  StopsAdding-first name text asked NotTable read fails lines says = inl (inr (inr (text, read, fails, says)))
+  StopsAdding-first name text asked OtherColumns read fails lines says = inr (text, read, fails, says)
   StopsAdding-first name text asked Memory read fails lines says = absurd says
   StopsAdding-first name text asked TooMany read fails lines says = absurd says
 

@@ -1,4 +1,5 @@
 pub mod Adding
+pub mod Begun
 pub mod BothSides
 pub mod Fleets
 pub mod InTurn

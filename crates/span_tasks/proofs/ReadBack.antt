@@ -57,9 +57,9 @@ module _ (source : SourceBytes) (schema : Schema) (unit : TimeUnit) where
   StopsAdding-part : (IsOther : Bytes → Type 0) (name : Name) (lines : Bytes) (has : HasPart source schema unit name) → ((text : Bytes) → IsText source name text → IsOther text → ⊥) → StopsAdding source IsOther name lines
       → lines ≡ unread_line (printed name)
   StopsAdding-part IsOther name lines has none (inl (inl unread)) = unread
-  StopsAdding-part IsOther name lines has none (inl (inr (text, read, long, said))) = absurd (let same = ap length (read-text name has text read) in omega (arith, same, long, has.within))
-  StopsAdding-part IsOther name lines has none (inr (inl (text, is, none_such, said))) = absurd (none_such unit has.part (read-part name has text is.read))
-  StopsAdding-part IsOther name lines has none (inr (inr (text, is, other, said))) = absurd (none text is other)
+  StopsAdding-part IsOther name lines has none (inl (inr (inl (text, read, long, said)))) = absurd (let same = ap length (read-text name has text read) in omega (arith, same, long, has.within))
+  StopsAdding-part IsOther name lines has none (inl (inr (inr (text, is, none_such, said)))) = absurd (none_such unit has.part (read-part name has text is.read))
+  StopsAdding-part IsOther name lines has none (inr (text, is, other, said)) = absurd (none text is other)
 
   -- a part has all that is asked for where nothing is
   lacks-none : (options : TableOptions) (text : Bytes) → options.columns.items ≡ [] → options.narrowing.conditions.items ≡ [] → AsksNoNumbers options.numbers → LacksAsked (asked_of options) text → ⊥

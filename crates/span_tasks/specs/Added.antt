@@ -48,16 +48,16 @@ abbrev pub AreOfFirst : SourceBytes → TableOptions → List Name → PartSum �
 AreOfFirst source options [] parts = ⊥
 AreOfFirst source options (name ∷ later) parts = Chooses (asked_of options) parts × IsOfKind source name parts
 
--- this is said of a name that was not read, or whose text is too long for a table
-abbrev pub IsNoText : SourceBytes → Name → Bytes → Type 0
-IsNoText source name lines = (lines ≡ unread_line (printed name))
-    ⊎ ((text : Bytes) × IsRead source name text × (most_added < length text) × (lines ≡ fault_line (printed name) (number_of NotTableFault)))
+-- this is said of a name that was not read, or whose text is too long for a table, or is none
+abbrev pub IsNoTable : SourceBytes → Name → Bytes → Type 0
+IsNoTable source name lines = (lines ≡ unread_line (printed name))
+    ⊎ (((text : Bytes) × IsRead source name text × (most_added < length text) × (lines ≡ fault_line (printed name) (number_of NotTableFault)))
+    ⊎ ((text : Bytes) × IsText source name text × IsNoPart text × (lines ≡ fault_line (printed name) (number_of NotTableFault))))
 
--- this is said of a name at which adding stops: it was not read, or there is no such table, or it is one of another kind
+-- this is said of a name at which adding stops: there is no such table, or it is one of another kind
 abbrev pub StopsAdding : SourceBytes → (Bytes → Type 0) → Name → Bytes → Type 0
-StopsAdding source IsOther name lines = IsNoText source name lines
-    ⊎ (((text : Bytes) × IsText source name text × IsNoPart text × (lines ≡ fault_line (printed name) (number_of NotTableFault)))
-    ⊎ ((text : Bytes) × IsText source name text × IsOther text × (lines ≡ fault_line (printed name) (number_of OtherColumnsFault))))
+StopsAdding source IsOther name lines = IsNoTable source name lines
+    ⊎ ((text : Bytes) × IsText source name text × IsOther text × (lines ≡ fault_line (printed name) (number_of OtherColumnsFault)))
 
 -- this is said of the first of these names, whose table is of another kind than these parts
 abbrev pub StopsNext : SourceBytes → PartSum → List Name → Bytes → Type 0

@@ -27,6 +27,6 @@ pub use Rattle.span_narrowing.specs.{Narrowed.{is_plain, narrowed, shown_schema,
 pub use Rattle.span_stack_sums.specs.{Stacks.{IsStackSum, Stands, stacks_of}, Text.{IsTextOf, labels_in}}
 pub use Rattle.span_comparisons.specs.{Comparison.comparison_of, JsonChanges.{json_changes_fit, json_comparison_of}, Repeats.{json_repeats_fit, json_repeats_of, repeats_of}}
 pub use Rattle.span_faults.specs.{FaultLines.{IsHint, fault_text, run_line, unread_line}, Warnings.warning_lines}
-pub use Rattle.span_runs.specs.{Apart.{AddsFile, AreGathered, GathersFiles, IsAccounted, IsFileRun, run_alone}, Folders.{AreFilesOf, Folder.unknown, SourceFolders, StopsListing}, Inputs.{AreInputs, IsInput}, Jobs.places, Names.{AreNamed, SaysOfNames}, Runs.{run_in_turn, run_of_files, shorter, shortened, table_of_run}, Source.{AreFirst, SourceBytes, printed}, Stops.{GathersOrStops, OfStop, StopsAfter, StopsAmong}, declared.{file_run.FileRun.FileRun, folders.Listed.Listed, gathered.Gathered.Gathered, said.Said.Said, names.Named.Named, source.Name.Name, stop.Halt.Halt}}
+pub use Rattle.span_runs.specs.{Apart.{AddsFile, AreGathered, GathersFiles, IsAccounted, IsFileRun, run_alone}, Folders.{AreFilesOf, Folder.unknown, SourceFolders, StopsListing}, Inputs.{AreInputs, IsInput}, Jobs.places, Names.{AreNamed, SaysOfNames}, Runs.{run_in_turn, run_of_files, shorter, shortened, table_of_run}, Source.{AreBegun, AreFirst, BeginOtherwise, SourceBytes, printed}, Stops.{GathersOrStops, OfStop, StopsAfter, StopsAmong}, declared.{file_run.FileRun.FileRun, folders.Listed.Listed, gathered.Gathered.Gathered, said.Said.Said, names.Named.Named, source.Name.Name, stop.Halt.Halt}}
 pub use Rattle.span_parts.specs.Sum.{AreAt, AreParts, Asked as AskedParts, Chooses, HasOtherSchema, HasSchema, IsNoPart, LacksAsked, PartSum, SumsParts, TakesNone, TakesPart, chosen}
 pub use Rattle.span_request.specs.{Request.AsksFor, declared.{tasks.{Items.Items, TableText.TableText, Tabulation.Tabulation}, views.{ComparisonForm.ComparisonForm, PageView.PageView, RepeatsForm.RepeatsForm, TableForm.{TableForm, TheVariants.{Json, Ranking}}, TableOptions.TableOptions}}}

@@ -1,8 +1,9 @@
 //! Tables that were printed: they are read back, and added in several jobs at once.
 ghost use Rattle.std.specs.Prelude.{◌≤◌, length, true, IfErr, IfOk};
-ghost use Rattle.span_tasks.specs.{Chooses, HasOtherSchema, LacksAsked, OfStop, Added.{AddsEach, BeginsWith, IsNoText, IsTableBeside, IsText, SaysPart, StopsAdding, TakesName}, Sides.{AddsBehind, AddsOrStops, AddsToFirst, JoinsSums, StopsLater}, Summed.asked_of, places};
+ghost use Rattle.span_tasks.specs.{Chooses, HasOtherSchema, LacksAsked, OfStop, Added.{AddsEach, BeginsWith, IsNoTable, IsTableBeside, IsText, SaysPart, StopsAdding, TakesName}, Sides.{AddsBehind, AddsOrStops, AddsToFirst, JoinsSums, StopsLater}, Summed.asked_of, places};
 
 use crate::place::Place;
+use crate::reading::begins_otherwise;
 use crate::summed::tested_in;
 use span_event::Fault;
 use span_names::HashKeys;
@@ -17,6 +18,9 @@ use std::thread::Threads;
 
 // The most bytes that a table may have.
 const MOST_ADDED: u64 = 1_099_511_627_776;
+
+// The first byte of each.
+const FIRST: u8 = b'{';
 
 // What jobs have in common that add tables.
 #[derive(Drop)]
@@ -257,16 +261,16 @@ fn add_name<S: Source>(alloc: Global, source: &S, parts: Parts, name: &Name) -> 
     }
 }
 
-// The text that the name stands for, unless it is too long for a table.
+// The text that the name stands for, unless it begins as no table does, or is too long for one.
 fn read_table<S: Source>(alloc: Global, source: &S, name: &Name) -> Result<Vec<u8>, Halt>
     ensures text { IfOk result (λ text. IsText (S.bytes source.now) name.now text.items) }
-    ensures stop { IfErr result (OfStop (IsNoText (S.bytes source.now) name.now)) }
+    ensures stop { IfErr result (OfStop (IsNoTable (S.bytes source.now) name.now)) }
 {
-    let text = match source.read(name, MOST_ADDED + 1) {
+    let text = match source.read_begun(name, MOST_ADDED + 1, FIRST) {
         Ok(text) => text,
         Err(fault) => return Err(unread(alloc, name, fault)),
     };
-    if text.len() as u64 > MOST_ADDED {
+    if begins_otherwise(&text, Some(FIRST)) || text.len() as u64 > MOST_ADDED {
         return Err(Halt::of_name(alloc, name, Fault::NotTable.code()));
     }
     Ok(text)

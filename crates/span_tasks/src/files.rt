@@ -1,7 +1,7 @@
 //! The real files, folders and standard input.
 ghost use Rattle.std.specs.Prelude.{◌≤◌, IfOk, vec_len};
 
-use crate::reading::{read_up_to, reason_of};
+use crate::reading::{Extent, read_up_to, reason_of};
 use crate::walk::files_below;
 use span_event::Text;
 use span_runs::{FolderFault, Name, Reason, Source, SourceFault};
@@ -61,10 +61,11 @@ impl<'a, W: Watcher> Source for Files<'a, W> {
     }
 
     fn read(&self, name: &Name, most: u64) -> Result<Vec<u8>, SourceFault> {
-        match name {
-            Name::Standard => self.read_standard(most),
-            Name::File(name) => self.read_file(name.as_str(), most),
-        }
+        self.read_some(name, most, None)
+    }
+
+    fn read_begun(&self, name: &Name, most: u64, first: u8) -> Result<Vec<u8>, SourceFault> {
+        self.read_some(name, most, Some(first))
     }
 
     fn size(&self, name: &Name) -> u64 {
@@ -105,8 +106,22 @@ impl<'a, W: Watcher> Files<'a, W> {
         }
     }
 
-    fn read_standard(&self, most: u64) -> Result<Vec<u8>, SourceFault>
+    // As much of what the name stands for as is wanted.
+    fn read_some(&self, name: &Name, most: u64, first: Option<u8>) -> Result<Vec<u8>, SourceFault>
         ensures within { IfOk result (λ read. vec_len read ≤ most) }
+    {
+        let extent = Extent {
+            most: most as usize,
+            first,
+        };
+        match name {
+            Name::Standard => self.read_standard(extent),
+            Name::File(name) => self.read_file(name.as_str(), extent),
+        }
+    }
+
+    fn read_standard(&self, extent: Extent) -> Result<Vec<u8>, SourceFault>
+        ensures within { IfOk result (λ read. vec_len read ≤ extent.most) }
     {
         if self.is_read.swap(true, Ordering::SeqCst) {
             return Err(SourceFault::NotOpened(Reason::Taken));
@@ -116,11 +131,11 @@ impl<'a, W: Watcher> Files<'a, W> {
             inner: self.rt.stdin(),
             watcher: &self.watcher,
         };
-        read_up_to(self.rt.alloc(), &mut reader, 0, most as usize)
+        read_up_to(self.rt.alloc(), &mut reader, 0, extent)
     }
 
-    fn read_file(&self, name: &str, most: u64) -> Result<Vec<u8>, SourceFault>
-        ensures within { IfOk result (λ read. vec_len read ≤ most) }
+    fn read_file(&self, name: &str, extent: Extent) -> Result<Vec<u8>, SourceFault>
+        ensures within { IfOk result (λ read. vec_len read ≤ extent.most) }
     {
         let file = match File::open(self.rt, name) {
             Ok(file) => file,
@@ -135,7 +150,7 @@ impl<'a, W: Watcher> Files<'a, W> {
             inner: file,
             watcher: &self.watcher,
         };
-        read_up_to(self.rt.alloc(), &mut reader, size as usize, most as usize)
+        read_up_to(self.rt.alloc(), &mut reader, size as usize, extent)
     }
 }
 

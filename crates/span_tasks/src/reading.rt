@@ -1,6 +1,6 @@
 //! Reads the bytes of an opened file.
-ghost use Rattle.std.specs.Prelude.{◌≡◌, ◌+◌, ◌<◌, ◌≤◌, length, vec_len, IfOk};
-ghost use Rattle.span_tasks.specs.{AreFirst, Reading.Brings};
+ghost use Rattle.std.specs.Prelude.{◌≡◌, ◌↔◌, ◌+◌, ◌<◌, ◌≤◌, length, vec_len, IfOk, IsTrue};
+ghost use Rattle.span_tasks.specs.{AreBegun, BeginOtherwise, Reading.Brings};
 
 use span_runs::{Reason, SourceFault};
 use std::alloc::Global;
@@ -48,17 +48,36 @@ fn read_some<R: Read>(
     }
 }
 
-/// The bytes up to the end, or the first `most` of them. There is room for `likely` from the start; 0 where it isn't known how many
+/// How much is read: no more than so many bytes. Of bytes that begin with another than this one, if there is one, some are enough.
+#[derive(Clone, Copy)]
+pub(crate) struct Extent {
+    pub(crate) most: usize,
+    pub(crate) first: Option<u8>,
+}
+
+/// Whether there is a byte that is wanted first, and these begin with another.
+pub(crate) fn begins_otherwise(bytes: &[u8], first: Option<u8>) -> bool
+    ensures { IsTrue result ↔ BeginOtherwise first bytes.now }
+{
+    let (Some(first), Some(byte)) = (first, bytes.first()) else {
+        return false;
+    };
+    *byte != first
+}
+
+/// The bytes up to the end, as far as they are wanted. There is room for `likely` from the start; 0 where it isn't known how many
 /// there are. A read that fails or is interrupted is not tried again.
 pub(crate) fn read_up_to<R: Read>(
     alloc: Global,
     reader: &mut R,
     likely: usize,
-    most: usize,
+    extent: Extent,
 ) -> Result<Vec<u8>, SourceFault>
-    ensures first { IfOk result (λ bytes. AreFirst most (R.remaining reader.old) bytes.items) }
-    ensures within { IfOk result (λ bytes. vec_len bytes ≤ most) }
+    ensures begun { IfOk result (λ bytes.
+        AreBegun extent.first extent.most (R.remaining reader.old) bytes.items) }
+    ensures within { IfOk result (λ bytes. vec_len bytes ≤ extent.most) }
 {
+    let Extent { most, first } = extent;
     let mut chunk = chunk_of(alloc, CHUNK)?;
     let Ok(mut bytes) = Vec::with_capacity(alloc, likely.min(most)) else {
         return Err(SourceFault::Memory);
@@ -66,6 +85,9 @@ pub(crate) fn read_up_to<R: Read>(
     while bytes.len() < most {
         let room = CHUNK.min(most - bytes.len());
         if read_some(reader, &mut chunk[..room], &mut bytes)? == 0 {
+            return Ok(bytes);
+        }
+        if begins_otherwise(&bytes, first) {
             return Ok(bytes);
         }
     }
