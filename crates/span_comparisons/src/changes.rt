@@ -3,7 +3,7 @@ ghost use Rattle.std.specs.Prelude.{◌≡◌, ◌++◌, ◌∷◌, [], ◌<◌,
 ghost use Rattle.span_comparisons.specs.{RowsRise, Changed.{Classifies, base_keys, new_key, new_keys}, Changes.{Change, by_gap, changes_of, compared, gap_by, gaps_order, is_changed, same_count, shown_changes}};
 
 use crate::numbers::order_numbers;
-use span_table::{Key, Number, Row, Sums, row_at, sums_at};
+use span_table::{Key, Number, Row, RowRef, Sums, row_at, sums_at};
 use span_table_text::Shown;
 use std::alloc::{AllocError, Global};
 use std::cmp::Ordering;
@@ -85,8 +85,8 @@ struct Classified<'a> {
 pub(crate) fn differences<'a>(
     alloc: Global,
     numbers: &[Number],
-    base: &'a [Row],
-    other: &'a [Row],
+    base: &'a [RowRef],
+    other: &'a [RowRef],
     shown: &Shown,
     by: Number,
 ) -> Result<ComparedTables<'a>, AllocError>
@@ -126,8 +126,8 @@ pub(crate) fn differences<'a>(
 // Classifies each key of the base.
 fn classify_base<'a>(
     found: &mut Classified<'a>,
-    base: &'a [Row],
-    other: &[Row],
+    base: &'a [RowRef],
+    other: &[RowRef],
     shown: &Shown,
 ) -> Result<(), AllocError>
     requires base { RowsRise base.now }
@@ -140,6 +140,7 @@ fn classify_base<'a>(
 {
     let mut place = 0;
     for row in base {
+        let row = row.row();
         let both = Both {
             base: row.sums,
             other: sums_at(other, &mut place, &row.key),
@@ -153,8 +154,8 @@ fn classify_base<'a>(
 // Classifies each key of the other that the base lacks.
 fn classify_new<'a>(
     found: &mut Classified<'a>,
-    base: &[Row],
-    other: &'a [Row],
+    base: &[RowRef],
+    other: &'a [RowRef],
     shown: &Shown,
 ) -> Result<(), AllocError>
     requires base { RowsRise base.now }
@@ -169,14 +170,14 @@ fn classify_new<'a>(
 {
     let mut place = 0;
     for row in other {
-        classify_if_new(found, base, &mut place, row, shown)?;
+        classify_if_new(found, base, &mut place, row.row(), shown)?;
     }
     Ok(())
 }
 
 fn classify_if_new<'a>(
     found: &mut Classified<'a>,
-    base: &[Row],
+    base: &[RowRef],
     place: &mut usize,
     row: &'a Row,
     shown: &Shown,

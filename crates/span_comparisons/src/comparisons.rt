@@ -7,7 +7,7 @@ use crate::changes::{Both, Changed, differences};
 use crate::comparing::{Comparing, first_of, put_more};
 use crate::numbers::compared_numbers;
 use span_report::{EntryCounts, first_line, put_counts, put_seals, put_unit};
-use span_table::{Number, Table, TableCounts};
+use span_table::{Number, OrderedTable, TableCounts};
 use span_table_text::lines::{put_runs, put_shown};
 use span_table_text::rows::{Cell, put_row, put_titles};
 use std::alloc::{AllocError, Global};
@@ -17,8 +17,8 @@ use std::cmp::Ordering;
 /// greatest change of the number that is asked for first. The heads say how many runs there are or don't.
 pub fn comparison(
     alloc: Global,
-    base: &Table,
-    other: &Table,
+    base: &OrderedTable,
+    other: &OrderedTable,
     asked: &Comparing,
     says_runs: bool,
 ) -> Result<Vec<u8>, AllocError>

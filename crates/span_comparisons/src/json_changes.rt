@@ -8,7 +8,7 @@ use crate::changes::{Both, Changed, ComparedTables, differences};
 use crate::comparing::Comparing;
 use json::Writer;
 use span_event::{Text, Unit};
-use span_table::{Number, Schema, Table, TableCounts, counts_fit, fits};
+use span_table::{Number, OrderedTable, Schema, TableCounts, counts_fit, fits};
 use span_table_text::JsonFault;
 use span_table_text::members::{column_names, ended, put_counts, put_key, put_number, put_start};
 use std::alloc::{AllocError, Global};
@@ -17,8 +17,8 @@ use std::alloc::{AllocError, Global};
 /// greatest change of the number that is asked for first.
 pub fn json_comparison(
     alloc: Global,
-    base: &Table,
-    other: &Table,
+    base: &OrderedTable,
+    other: &OrderedTable,
     asked: &Comparing,
 ) -> Result<Vec<u8>, JsonFault>
     ensures text { IfOk result (λ text. text.items ≡ json_comparison_of asked.now.unit
@@ -63,8 +63,8 @@ fn all_fit(changes: &[Changed]) -> bool
 fn text_of(
     alloc: Global,
     unit: Unit,
-    base: &Table,
-    other: &Table,
+    base: &OrderedTable,
+    other: &OrderedTable,
     found: &ComparedTables,
 ) -> Result<Vec<u8>, AllocError>
     requires heads { heads_fit found.now.same base.now.counts other.now.counts ≡ true }

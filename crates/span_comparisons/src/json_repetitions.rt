@@ -10,7 +10,7 @@ use crate::repeated::repeated;
 use crate::sides::{Side, side_counts};
 use json::Writer;
 use span_event::Text;
-use span_table::{Column, Key, Number, Schema, Table};
+use span_table::{Column, Key, Number, OrderedTable, Schema};
 use span_table_text::JsonFault;
 use span_table_text::members::{column_names, ended, put_key};
 use std::alloc::{AllocError, Global};
@@ -20,8 +20,8 @@ use std::alloc::{AllocError, Global};
 pub fn json_repeats(
     alloc: Global,
     schema: &Schema,
-    base: &[Table],
-    other: &[Table],
+    base: &[OrderedTable],
+    other: &[OrderedTable],
     asked: &Comparing,
 ) -> Result<Vec<u8>, JsonFault>
     ensures text { IfOk result (λ text. text.items ≡ json_repeats_of asked.now.unit asked.now.by
@@ -77,8 +77,8 @@ impl<'a> Lines<'a> {
         &self,
         alloc: Global,
         out: &mut Vec<u8>,
-        base: &[Table],
-        other: &[Table],
+        base: &[OrderedTable],
+        other: &[OrderedTable],
         keys: &[&Key],
     ) -> Result<(), JsonFault>
         requires { self.now.names.now ≡ map column_name self.now.columns.now }

@@ -20,5 +20,5 @@ pub use json_changes::json_comparison;
 pub use json_repetitions::json_repeats;
 pub use repetitions::repeats;
 pub use span_event::Unit;
-pub use span_table::{Column, Number, Schema, Table};
+pub use span_table::{Column, Number, OrderedTable, Schema};
 pub use span_table_text::{JsonFault, Shown};

@@ -4,7 +4,7 @@ ghost use Rattle.span_comparisons.specs.{TableKey, Sides.ClassifiesSpreads, Spre
 
 use crate::sides::Side;
 use crate::spreads::Spreads;
-use span_table::{Key, Number, Row, Table};
+use span_table::{Key, Number, OrderedTable, RowRef};
 use span_table_text::Shown;
 use std::alloc::{AllocError, Global};
 
@@ -30,8 +30,8 @@ struct Classified<'a> {
 /// What the tables of both sides have of the keys that are shown.
 pub(crate) fn repeated<'a>(
     alloc: Global,
-    base: &'a [Table],
-    other: &'a [Table],
+    base: &'a [OrderedTable<'a>],
+    other: &'a [OrderedTable<'a>],
     shown: &Shown,
     by: Number,
 ) -> Result<RepeatedRuns<'a>, AllocError>
@@ -66,8 +66,8 @@ pub(crate) fn repeated<'a>(
 // Each key of a table of either side, once, in ascending order.
 fn all_keys<'a>(
     alloc: Global,
-    base: &'a [Table],
-    other: &'a [Table],
+    base: &'a [OrderedTable<'a>],
+    other: &'a [OrderedTable<'a>],
 ) -> Result<Vec<&'a Key>, AllocError>
     ensures { IfOk result (λ keys. map (λ key. key.now) keys.items
         ≡ all_keys (base.now ++ other.now)) }
@@ -80,7 +80,7 @@ fn all_keys<'a>(
     Ok(keys)
 }
 
-fn push_keys<'a>(keys: &mut Vec<&'a Key>, tables: &'a [Table]) -> Result<(), AllocError>
+fn push_keys<'a>(keys: &mut Vec<&'a Key>, tables: &'a [OrderedTable<'a>]) -> Result<(), AllocError>
     ensures { OnOk result (map (λ key. key.now) keys.new.items
         ≡ map (λ key. key.now) keys.old.items ++ keys_of tables.now) }
 {
@@ -90,20 +90,20 @@ fn push_keys<'a>(keys: &mut Vec<&'a Key>, tables: &'a [Table]) -> Result<(), All
     Ok(())
 }
 
-fn push_row_keys<'a>(keys: &mut Vec<&'a Key>, rows: &'a [Row]) -> Result<(), AllocError>
+fn push_row_keys<'a>(keys: &mut Vec<&'a Key>, rows: &'a [RowRef]) -> Result<(), AllocError>
     ensures { OnOk result (map (λ key. key.now) keys.new.items
         ≡ map (λ key. key.now) keys.old.items ++ map (λ row. row.key) rows.now) }
 {
     for row in rows {
-        keys.push(&row.key)?;
+        keys.push(&row.row().key)?;
     }
     Ok(())
 }
 
 fn classify_all<'a>(
     alloc: Global,
-    base: &[Table],
-    other: &[Table],
+    base: &[OrderedTable],
+    other: &[OrderedTable],
     keys: &[&'a Key],
     by: Number,
 ) -> Result<Classified<'a>, AllocError>

@@ -9,7 +9,7 @@ use crate::repeated::repeated;
 use crate::sides::side_counts;
 use crate::spreads::{Spread, Spreads};
 use span_report::{first_line, put_unit};
-use span_table::{Column, Table};
+use span_table::{Column, OrderedTable};
 use span_table_text::lines::put_shown;
 use span_table_text::rows::{Cell, put_row, put_titles};
 use std::alloc::{AllocError, Global};
@@ -32,8 +32,8 @@ const TITLES: [&str; 7] = [
 pub fn repeats(
     alloc: Global,
     columns: &[Column],
-    base: &[Table],
-    other: &[Table],
+    base: &[OrderedTable],
+    other: &[OrderedTable],
     asked: &Comparing,
 ) -> Result<Vec<u8>, AllocError>
     ensures { IfOk result (λ text. text.items ≡ repeats_of asked.now.unit asked.now.by

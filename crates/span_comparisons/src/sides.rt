@@ -3,20 +3,20 @@ ghost use Rattle.std.specs.Prelude.{◌≡◌, ◌≤◌, map, length, OnOk, IfO
 ghost use Rattle.span_comparisons.specs.{Repeats.side_counts, Spreads.{spread_of, values_at}};
 
 use crate::spreads::Spread;
-use span_table::{Key, Number, Table, TableCounts, sums_at};
+use span_table::{Key, Number, OrderedTable, TableCounts, sums_at};
 use std::alloc::{AllocError, Global};
 use std::marker::Model;
 
 /// The tables of a side, with the values of the key that was looked up last.
 #[derive(Drop)]
-pub(crate) struct Side<'a> {
-    tables: &'a [Table],
+pub(crate) struct Side<'s, 't> {
+    tables: &'s [OrderedTable<'t>],
     // Where the next key is looked for in each table.
     places: Vec<usize>,
     values: Vec<u128>,
 }
 
-impl<'a> Model for Side<'a> {
+impl<'s, 't> Model for Side<'s, 't> {
     ghost use Rattle.std.specs.Prelude.{◌≡◌, length};
     ghost use Rattle.span_comparisons.specs.Sides.{SideValues};
 
@@ -27,8 +27,11 @@ impl<'a> Model for Side<'a> {
     ghost invariant = { λ s. length s.places.items ≡ length s.tables.now };
 }
 
-impl<'a> Side<'a> {
-    pub(crate) fn of(alloc: Global, tables: &'a [Table]) -> Result<Side<'a>, AllocError>
+impl<'s, 't> Side<'s, 't> {
+    pub(crate) fn of(
+        alloc: Global,
+        tables: &'s [OrderedTable<'t>],
+    ) -> Result<Side<'s, 't>, AllocError>
         ensures { IfOk result (λ side. side.tables ≡ tables.now) }
     {
         Ok(Side {
@@ -69,7 +72,7 @@ impl<'a> Side<'a> {
 }
 
 /// The counts of a side's tables added.
-pub(crate) fn side_counts(tables: &[Table]) -> Result<TableCounts, AllocError>
+pub(crate) fn side_counts(tables: &[OrderedTable]) -> Result<TableCounts, AllocError>
     ensures { IfOk result (λ counts. counts ≡ side_counts tables.now) }
 {
     let mut counts = TableCounts::of_none();

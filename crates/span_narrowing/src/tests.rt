@@ -3,7 +3,8 @@ use crate::{Condition, Narrowing, narrowed, summed_by};
 use span_event::{ArgValue, Text};
 use span_names::HashKeys;
 use span_table::{
-    Column, EntryCounts, Key, Of, Row, Schema, SumFault, Sums, Table, TableCounts, TableSum,
+    Column, EntryCounts, Key, Of, OrderedTable, Row, Schema, SumFault, Sums, Table, TableCounts,
+    TableSum,
 };
 use std::alloc::{AllocError, Global};
 use std::test::Fail;
@@ -107,7 +108,8 @@ fn without_conditions(alloc: Global, merges: bool) -> Narrowing {
 // The first value of each key, its count, and a blank behind both.
 fn shown(alloc: Global, table: &Table) -> Result<String, AllocError> {
     let mut text = String::new(alloc);
-    for row in table.rows() {
+    for row in OrderedTable::of(alloc, table)?.rows() {
+        let row = row.row();
         let count = row.sums.count;
         match row.key.values() {
             [Some(ArgValue::Words(name)), ..] => {

@@ -6,7 +6,7 @@ use crate::file_run::collect_file;
 use crate::folders::Listed;
 use crate::gathered::Gathered;
 use crate::gathering::Gathering;
-use crate::jobs::{Stopped, in_jobs};
+use crate::jobs::{Jobs, Stopped, in_jobs};
 use crate::source::{Name, Source, jobs_for, sizes_of};
 use crate::stop::Halt;
 use span_collect::Settings;
@@ -27,10 +27,12 @@ struct FileWork<'a, S, B> {
     by: &'a B,
     // How many bytes of each name the column of files leaves out.
     cut: usize,
+    // Whether each job puts what it gathers in order.
+    sort: bool,
     stopped: &'a Stopped,
 }
 
-/// Reads these files one after another, in so many jobs at once, collects each as a run of its own, and gathers what they come
+/// Reads these files one after another, in several jobs at once, collects each as a run of its own, and gathers what they come
 /// to, summed by this. The first file that stops, in the order of the names, decides.
 pub fn gather_apart<T: Gathering, S: Source + Sync, R: Threads + Wait + RandomSource + Sync>(
     rt: &R,
@@ -39,7 +41,7 @@ pub fn gather_apart<T: Gathering, S: Source + Sync, R: Threads + Wait + RandomSo
     files: &Listed,
     settings: &Settings,
     by: &T::By,
-    jobs: u32,
+    jobs: Jobs,
 ) -> Result<Gathered<T>, Halt>
     ensures { GathersOrStops (S.bytes source.now) files.now.names.items settings.now
         (shortened files.now.cut (T.come_to by.now)) result }
@@ -56,9 +58,11 @@ pub fn gather_apart<T: Gathering, S: Source + Sync, R: Threads + Wait + RandomSo
         keys: HashKeys::random(rt),
         by,
         cut: files.cut,
+        sort: jobs.sort,
         stopped: &stopped,
     };
-    gather_in_jobs(rt, &work, names, &sizes, jobs_for(source, names, jobs))
+    let most = jobs_for(source, names, jobs.most);
+    gather_in_jobs(rt, &work, names, &sizes, most)
 }
 
 // Gathers these files, which are thought to be so large, in so many jobs.
@@ -114,6 +118,9 @@ fn gather_in_job<T: Gathering, S: Source, R: Threads + Wait + RandomSource + Syn
             }
         };
         place = place.saturating_add(1);
+    }
+    if !work.sort {
+        return Ok(gathered);
     }
     match gathered.runs.in_order() {
         Ok(runs) => Ok(Gathered { runs, ..gathered }),

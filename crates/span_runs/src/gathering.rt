@@ -89,7 +89,7 @@ impl Gathering for TableSum {
     }
 }
 
-/// A table of each, in their order.
+/// A table of each, in their order. The rows of each are put in order at once, since other jobs do so with theirs.
 impl Gathering for Vec<Table> {
     ghost use Rattle.span_runs.specs.Gathering.{AreTablesOf};
 
@@ -124,7 +124,7 @@ impl Gathering for Vec<Table> {
             return Err(SumFault::Memory);
         };
         let mut tables = self;
-        match tables.push(table) {
+        match tables.push(table.in_order()) {
             Ok(()) => Ok(tables),
             Err(_) => Err(SumFault::Memory),
         }

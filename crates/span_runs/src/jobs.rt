@@ -6,6 +6,14 @@ use crate::cuts::cut;
 use std::sync::atomic::{AtomicU64, Ordering};
 use std::thread::{Threads, join_mut};
 
+/// In how many jobs at once files are gathered, and whether each puts what it gathers in order before that is joined, which pays where all
+/// is wanted in order. Nothing but time depends on either.
+#[derive(Clone, Copy)]
+pub struct Jobs {
+    pub most: u32,
+    pub sort: bool,
+}
+
 /// A place at which a job stopped, which the others look at.
 #[derive(Drop)]
 pub struct Stopped {

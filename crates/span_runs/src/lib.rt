@@ -22,7 +22,7 @@ pub use files::{read_input, unread};
 pub use folders::{Listed, files_of};
 pub use gathered::Gathered;
 pub use gathering::Gathering;
-pub use jobs::{Stopped, in_jobs};
+pub use jobs::{Jobs, Stopped, in_jobs};
 pub use names::{Named, is_standard, names_of, names_of_words};
 pub use runs::table_of_run;
 pub use said::Said;

@@ -3,7 +3,7 @@ use Rattle.std.specs.{List.{cons_option, list_any, Sorted.IsPermutation}, Option
 use Rattle.std.proofs.{Common.{◌≡◌, ℕ, ◌+◌, ◌||◌, Bool, true, false, arith, List, [], ◌∷◌, ◌++◌, Option, Some, None, map, refl, sym, ap, ap₂, subst, ◌∙◌}, lemmas.{Grind.flat_map-append, List.{map-append, map-id, Sorted.{IsPermutation-map, list_any-IsPermutation, sum_by-IsPermutation}, Sums.{sum_by-append, sum_by-cons}}, Option.slice_get-map, Simd.map-map}}
 use Rattle.span_self_time.proofs.Mapped.{sum_by-map}
 use Rattle.span_keyed_tracks.proofs.{Keyed.has_key, SameKeys.step_keys}
-use Rattle.span_table.specs.{Thread, AsyncRow, Keyed, keys_in, steps_at, CountRow, accepted, async_rows, thread_keys, Timed, timed_spans, thread_events, closed_spans, parent_of, Adding.{AddingLosesNothing, AreAmong, Choice, DroppingAdds, OrderIsNothing, keyed_by, keyed_rows, picked, schema_by}, Columns.{async_value_at, value_at}, KeyLaws.{key_cmp_total, key_cmp-same}, Keys.{TableKey, key_cmp}, Numbers.set_of, Sums.{no_sums, with_sums}, Tables.{KeyedSums, Run, Schema, SpanTable, called, counts_of, counts_together, keyed_async, keyed_span, row_of, rows_of, run_sums, schema_sums, sums_of, sums_together, table_of, thread_sums, with_only}, declared.{number_set.NumberSet.NumberSet, column.Column.Column, counts.TableCounts.TableCounts, of.Of.{Of, TheVariants.{Spans, Async}}, sums.Sums.Sums, table.Row.Row}}
+use Rattle.span_table.specs.{Thread, AsyncRow, Keyed, keys_in, steps_at, CountRow, accepted, async_rows, thread_keys, Timed, timed_spans, thread_events, closed_spans, parent_of, Adding.{AddingLosesNothing, AreAmong, Choice, DroppingAdds, OrderIsNothing, keyed_by, keyed_row, keyed_rows, picked, schema_by}, Columns.{async_value_at, value_at}, KeyLaws.{key_cmp_total, key_cmp-same}, Keys.{TableKey, key_cmp}, Numbers.set_of, Sums.{no_sums, with_sums}, Tables.{KeyedSums, Run, Schema, SpanTable, called, counts_of, counts_together, keyed_async, keyed_span, row_of, rows_of, run_sums, schema_sums, sums_of, sums_together, table_of, thread_sums, with_only}, declared.{number_set.NumberSet.NumberSet, column.Column.Column, counts.TableCounts.TableCounts, of.Of.{Of, TheVariants.{Spans, Async}}, sums.Sums.Sums, table.Row.Row}}
 use Rattle.span_table.proofs.{Alike.{AddUpAlike, AddUpAlike-append, AddUpAlike-flat_map, AddUpAlike-grouped, AddUpAlike-refl, has_key-append, summed-alike}, Only.{AddUpAlike-only, only-among}, Tallies.{above-max, made_of, nat-same, number-total, same_numbers, tally, tally-append, total, under}}
 
 -- sums that add up alike give the same rows
@@ -164,24 +164,41 @@ total-moved {A = A} f xs ys moved = same_numbers (total f xs) (total f ys)
     longest-same : ((n : ℕ) → nat_lt n (total f xs).longest ≡ nat_lt n (total f ys).longest) → (total f xs).longest ≡ (total f ys).longest
     longest-same same = nat-same (total f xs).longest (total f ys).longest same
 
--- what adds up over runs is the same in whatever order they come
-module _ (F : Run → KeyedSums) (k : TableKey) where
-  keys-each : (runs : List Run) → has_key key_cmp k (step_keys (flat_map F runs)) ≡ list_any (λ run. has_key key_cmp k (step_keys (F run))) runs
-  keys-each [] = refl
-  keys-each (run ∷ runs) =
-      ap (has_key key_cmp k) (map-append (λ (e : Keyed TableKey Sums). e.key) (F run) (flat_map F runs)) ∙ has_key-append key_cmp k (step_keys (F run)) (step_keys (flat_map F runs))
-      ∙ ap (λ b. has_key key_cmp k (step_keys (F run)) || b) (keys-each runs)
+-- what adds up over some is the same in whatever order they come
+module _ {A : Type 0} (F : A → KeyedSums) where
+  module _ (k : TableKey) where
+    keys-each : (xs : List A) → has_key key_cmp k (step_keys (flat_map F xs)) ≡ list_any (λ x. has_key key_cmp k (step_keys (F x))) xs
+    keys-each [] = refl
+    keys-each (x ∷ xs) =
+        ap (has_key key_cmp k) (map-append (λ (e : Keyed TableKey Sums). e.key) (F x) (flat_map F xs)) ∙ has_key-append key_cmp k (step_keys (F x)) (step_keys (flat_map F xs))
+        ∙ ap (λ b. has_key key_cmp k (step_keys (F x)) || b) (keys-each xs)
 
-  tally-each : (runs : List Run) → tally key_cmp k (flat_map F runs) ≡ total (λ run. tally key_cmp k (F run)) runs
-  tally-each [] = refl
-  tally-each (run ∷ runs) = tally-append key_cmp k (F run) (flat_map F runs) ∙ ap (with_sums (tally key_cmp k (F run))) (tally-each runs)
+    tally-each : (xs : List A) → tally key_cmp k (flat_map F xs) ≡ total (λ x. tally key_cmp k (F x)) xs
+    tally-each [] = refl
+    tally-each (x ∷ xs) = tally-append key_cmp k (F x) (flat_map F xs) ∙ ap (with_sums (tally key_cmp k (F x))) (tally-each xs)
 
-  module _ (runs other : List Run) (moved : IsPermutation runs other) where
-    keys-moved : has_key key_cmp k (step_keys (flat_map F runs)) ≡ has_key key_cmp k (step_keys (flat_map F other))
-    keys-moved = keys-each runs ∙ list_any-IsPermutation (λ run. has_key key_cmp k (step_keys (F run))) runs other moved ∙ sym (keys-each other)
+    module _ (xs ys : List A) (moved : IsPermutation xs ys) where
+      keys-moved : has_key key_cmp k (step_keys (flat_map F xs)) ≡ has_key key_cmp k (step_keys (flat_map F ys))
+      keys-moved = keys-each xs ∙ list_any-IsPermutation (λ x. has_key key_cmp k (step_keys (F x))) xs ys moved ∙ sym (keys-each ys)
 
-    sums-moved : tally key_cmp k (flat_map F runs) ≡ tally key_cmp k (flat_map F other)
-    sums-moved = tally-each runs ∙ total-moved (λ run. tally key_cmp k (F run)) runs other moved ∙ sym (tally-each other)
+      sums-moved : tally key_cmp k (flat_map F xs) ≡ tally key_cmp k (flat_map F ys)
+      sums-moved = tally-each xs ∙ total-moved (λ x. tally key_cmp k (F x)) xs ys moved ∙ sym (tally-each ys)
+
+  pub AddUpAlike-moved : (xs ys : List A) → IsPermutation xs ys → AddUpAlike (flat_map F xs) (flat_map F ys)
+  AddUpAlike-moved xs ys moved = record {
+    there = λ k h. sym (keys-moved k xs ys moved) ∙ h;
+    back = λ k h. keys-moved k xs ys moved ∙ h;
+    sums = λ k. sums-moved k xs ys moved;
+  }
+
+-- so are the sums of rows
+pub AddUpAlike-rows : (rows mixed : List Row) → IsPermutation rows mixed → AddUpAlike (keyed_rows rows) (keyed_rows mixed)
+AddUpAlike-rows rows mixed moved =
+    subst (λ es. AddUpAlike es (keyed_rows mixed)) (each rows) (subst (AddUpAlike (flat_map (λ row. keyed_row row ∷ []) rows)) (each mixed) (AddUpAlike-moved (λ (row : Row). keyed_row row ∷ []) rows mixed moved))
+  where
+    each : (xs : List Row) → flat_map (λ (row : Row). keyed_row row ∷ []) xs ≡ keyed_rows xs
+    each [] = refl
+    each (x ∷ xs) = ap (λ es. keyed_row x ∷ es) (each xs)
 
 -- a table is the same for runs in whatever order
 pub table_of-moved : OrderIsNothing
@@ -192,8 +209,4 @@ table_of-moved schema runs other moved = λ i. record { schema = schema; counts 
         (λ f adds. adds (map counts_of runs) ∙ sym (sum_by-IsPermutation f (map counts_of runs) (map counts_of other) (IsPermutation-map counts_of runs other moved)) ∙ sym (adds (map counts_of other)))
 
     rows : rows_of (flat_map (schema_sums schema) runs) ≡ rows_of (flat_map (schema_sums schema) other)
-    rows = rows_of-alike (flat_map (schema_sums schema) runs) (flat_map (schema_sums schema) other) (record {
-      there = λ k h. sym (keys-moved (schema_sums schema) k runs other moved) ∙ h;
-      back = λ k h. keys-moved (schema_sums schema) k runs other moved ∙ h;
-      sums = λ k. sums-moved (schema_sums schema) k runs other moved;
-    })
+    rows = rows_of-alike (flat_map (schema_sums schema) runs) (flat_map (schema_sums schema) other) (AddUpAlike-moved (schema_sums schema) runs other moved)

@@ -49,6 +49,17 @@ rows_with-run rows old new more rise takes =
 pub rows_with-none : (sums : KeyedSums) → rows_with (rows_of sums) [] ≡ rows_of sums
 rows_with-none sums = rows-then sums [] ∙ ap rows_of (append-nil sums)
 
+-- where all were added since, they are those of what is kept
+pub rows_with-kept : (rows : List Row) (kept : SumsByKey) → rows ≡ [] → RowsRise (map row_of kept) → rows_with rows kept ≡ map row_of kept
+rows_with-kept rows kept none rise = ap (λ (l : List Row). rows_with l kept) none ∙ rows_of-own (map row_of kept) rise
+
+-- rows of two sums, of which all those of the other are taken
+pub rows_with-all : (mine its : List Row) (old new more : SumsByKey) → its ≡ [] → RowsRise (map row_of old) → RowsRise (map row_of more) → Takes old new (keyed_rows (map row_of more)) →
+    rows_with mine new ≡ rows_of (keyed_rows (rows_with mine old) ++ (keyed_rows (rows_with its more) ++ []))
+rows_with-all mine its old new more none rise its_rise takes =
+    rows_with-taken mine old new (keyed_rows (map row_of more)) rise takes
+    ∙ ap (λ l. rows_of (keyed_rows (rows_with mine old) ++ l)) (ap keyed_rows (sym (rows_with-kept its more none its_rise)) ∙ sym (append-nil (keyed_rows (rows_with its more))))
+
 -- rows of two sums in order, with nothing added since
 pub rows_with-joined : (mine its rows more all : List Row) (kept : SumsByKey) → rows ≡ mine → more ≡ its → all ≡ rows_of (keyed_rows rows ++ keyed_rows more) → kept ≡ [] → rows_with all kept ≡ rows_of (keyed_rows mine ++ (keyed_rows its ++ []))
 rows_with-joined mine its rows more all kept one other is none =
@@ -77,9 +88,20 @@ JoinsRuns-added one other both added parts = λ schema runs others first second.
   parts = omega (arith, parts, first.parts, second.parts, length-append runs others);
 }
 
+-- sums that are taken after others are taken behind them
+pub Takes-then : (old mid new : SumsByKey) (first second : KeyedSums) → Takes old mid first → Takes mid new second → Takes old new (first ++ second)
+Takes-then old mid new first second one other = record { sums = λ sums is. other.sums (sums ++ first) (one.sums sums is) ∙ ap summed (append_assoc sums first second) }
+
+-- none changes nothing
+pub Takes-none : (kept : SumsByKey) → Takes kept kept []
+Takes-none kept = record { sums = λ sums is. is ∙ ap summed (sym (append-nil sums)) }
+
 -- sums that add up alike are taken alike
+pub Takes-same : (old new : SumsByKey) (es fs : KeyedSums) → AddUpAlike es fs → Takes old new es → Takes old new fs
+Takes-same old new es fs alike takes = record { sums = λ sums kept. takes.sums sums kept ∙ summed-alike (sums ++ es) (sums ++ fs) (AddUpAlike-append sums es sums fs (AddUpAlike-refl sums) alike) }
+
 pub Takes-alike : (result : Result (Unit {0}) AllocError) (old new : SumsByKey) (es fs : KeyedSums) → AddUpAlike es fs → OnOk result (Takes old new es) → OnOk result (Takes old new fs)
-Takes-alike (Ok done) old new es fs alike takes = record { sums = λ sums kept. takes.sums sums kept ∙ summed-alike (sums ++ es) (sums ++ fs) (AddUpAlike-append sums es sums fs (AddUpAlike-refl sums) alike) }
+Takes-alike (Ok done) old new es fs alike takes = Takes-same old new es fs alike takes
 Takes-alike (Err error) old new es fs alike takes = tt
 
 -- all rows in order

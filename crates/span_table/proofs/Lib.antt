@@ -6,6 +6,7 @@ pub mod ByName
 pub mod Kept
 pub mod KeyPlaces
 pub mod MergedRows
+pub mod Mixed
 pub mod Only
 pub mod OwnRows
 pub mod Parents

@@ -1,6 +1,6 @@
 -- Tables: the closed spans of runs, or their asynchronous spans, summed by columns.
-use Rattle.std.specs.{List.Sorted.IsStrictlySortedBy, Option.option_map, Prelude.{ℕ, if◌then◌else◌, Bool, List, map, flat_map, sum_by}}
-use Rattle.span_table.specs.{Thread, AsyncRow, Keyed, entries_in, CountRow, accepted, async_rows, count_row, longest_async, thread_keys, Timed, timed_spans, thread_events, Bytes, Span, closed_spans, is_outer, length_of, parent_of, Columns.{Called, async_value_at, value_at}, Keys.{TableKey, key_cmp}, Numbers.{only_in, set_of, usual_numbers}, declared.{number_set.NumberSet.NumberSet, column.Column.Column, counts.TableCounts.TableCounts, number.Number.Number, of.Of.{Of, TheVariants.{Spans, Async}}, audience.Audience.TheVariants.Programs, sums.Sums.Sums, table.Row.Row}}
+use Rattle.std.specs.{List.{IsDistinct, Sorted.IsStrictlySortedBy}, Option.option_map, Ordering.eq_by_cmp, Prelude.{◌≡◌, ℕ, if◌then◌else◌, Bool, List, map, flat_map, sum_by}, declared.cmp.Ordering.Ordering}
+use Rattle.span_table.specs.{Thread, AsyncRow, Keyed, ascending, entries_in, CountRow, accepted, async_rows, count_row, longest_async, thread_keys, Timed, timed_spans, thread_events, Bytes, Span, closed_spans, is_outer, length_of, parent_of, Columns.{Called, async_value_at, value_at}, Keys.{TableKey, key_cmp}, Numbers.{only_in, set_of, usual_numbers}, declared.{number_set.NumberSet.NumberSet, column.Column.Column, counts.TableCounts.TableCounts, number.Number.Number, of.Of.{Of, TheVariants.{Spans, Async}}, audience.Audience.TheVariants.Programs, sums.Sums.Sums, table.Row.Row}}
 pub use Rattle.span_table.specs.{Columns.Run, Sums.sums_together}
 
 -- the numbers of a closed span of this length and self time, which is outer or isn't
@@ -82,9 +82,18 @@ row_of (key, sums) = record { key = key; sums = sums }
 abbrev pub rows_of : KeyedSums → List Row
 rows_of sums = map row_of (summed sums)
 
+-- the order of rows, which is that of their keys
+abbrev pub row_cmp : Row → Row → Ordering
+row_cmp a b = key_cmp a.key b.key
+
 -- keys rise, so none comes twice
 abbrev pub RowsRise : List Row → Type 0
-RowsRise rows = IsStrictlySortedBy (λ (a b : Row). key_cmp a.key b.key) rows
+RowsRise rows = IsStrictlySortedBy row_cmp rows
+
+-- these are the rows of a table, in whatever order
+pub record AreRowsOf (rows mixed : List Row) : Type 0 where
+  pub distinct : IsDistinct (eq_by_cmp row_cmp) mixed
+  pub sorted : rows ≡ ascending row_cmp mixed
 
 -- the counts of the entries of runs added
 abbrev pub entry_counts_together : List CountRow → CountRow

@@ -1,6 +1,6 @@
 //! The sums of each key.
-ghost use Rattle.std.specs.{BTreeMap.is_at, Map.lookup, Prelude.{◌≡◌, ◌∷◌, [], false, map, None, IfOk, IsTrue, OnErr, OnOk}};
-ghost use Rattle.span_table.specs.{Collected.{IsPlaceOf, Takes}, Keys.key_cmp, Tables.{RowsRise, row_of}};
+ghost use Rattle.std.specs.{BTreeMap.is_at, List.IsDistinct, Map.lookup, Ordering.eq_by_cmp, Prelude.{◌≡◌, ◌∷◌, [], false, map, None, IfOk, IsTrue, OnErr, OnOk}};
+ghost use Rattle.span_table.specs.{ascending, Adding.keyed_rows, Collected.{IsPlaceOf, Takes}, Keys.key_cmp, Tables.{AreRowsOf, RowsRise, row_cmp, row_of}};
 
 use crate::key::Key;
 use crate::sums::Sums;
@@ -120,15 +120,42 @@ impl Groups {
         Ok(())
     }
 
+    /// Adds all sums of others to those of their keys. Some may have been added where memory is refused.
+    pub(crate) fn add_all(&mut self, others: Groups) -> Result<(), AllocError>
+        ensures { OnOk result (Takes self.old self.new (keyed_rows (map row_of others))) }
+    {
+        for (key, sums) in others.kept {
+            self.add(key, sums)?;
+        }
+        Ok(())
+    }
+
     /// The keys in ascending order, with the sums of each.
     pub fn into_rows(self) -> Result<Vec<Row>, AllocError>
         ensures rows { IfOk result (λ rows. rows.items ≡ map row_of self) }
         ensures rise { IfOk result (λ rows. RowsRise rows.items) }
     {
-        let mut rows = rows_of(self.kept)?;
-        rows.sort_unstable_by(|a, b| a.key.cmp(&b.key));
+        Ok(in_order(self.into_mixed()?))
+    }
+
+    /// The keys in whatever order, with the sums of each.
+    pub(crate) fn into_mixed(self) -> Result<Vec<Row>, AllocError>
+        ensures { IfOk result (λ rows. AreRowsOf (map row_of self) rows.items) }
+    {
+        let rows = rows_of(self.kept)?;
         Ok(rows)
     }
+}
+
+/// The rows in ascending order of keys.
+pub(crate) fn in_order(rows: Vec<Row>) -> Vec<Row>
+    requires { IsDistinct (eq_by_cmp row_cmp) rows.items }
+    ensures rows { result.items ≡ ascending row_cmp rows.items }
+    ensures rise { RowsRise result.items }
+{
+    let mut rows = rows;
+    rows.sort_unstable_by(|a, b| a.key.cmp(&b.key));
+    rows
 }
 
 // The place behind a key, if it stands not far behind the last one.

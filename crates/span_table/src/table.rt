@@ -1,8 +1,9 @@
 //! A table of spans.
-ghost use Rattle.std.specs.Prelude.{◌≡◌, ◌∷◌, [], option_copied, IfOk};
-ghost use Rattle.span_table.specs.{Columns.run_of, Tables.{RowsRise, table_of}};
+ghost use Rattle.std.specs.Prelude.{◌≡◌, ◌∷◌, [], length, option_copied, IfOk};
+ghost use Rattle.span_table.specs.{Columns.run_of, Tables.{AreRowsOf, table_of}};
 
 use crate::counts::TableCounts;
+use crate::groups::in_order;
 use crate::key::Key;
 use crate::run::LedgerRun;
 use crate::schema::Schema;
@@ -21,7 +22,8 @@ pub struct Row {
     pub sums: Sums,
 }
 
-/// Spans summed by columns: a row for each key that a span has, in ascending order of keys.
+/// Spans summed by columns: a row for each key that a span has. A contract sees them in ascending order of keys, but they are kept in
+/// whatever order, since to put many in order takes longer than to look at each.
 #[derive(Drop)]
 pub struct Table {
     pub(crate) schema: Schema,
@@ -30,13 +32,14 @@ pub struct Table {
 }
 
 impl Model for Table {
-    ghost use Rattle.span_table.specs.Tables.{RowsRise, SpanTable};
+    ghost use Rattle.std.specs.{List.IsDistinct, Ordering.eq_by_cmp};
+    ghost use Rattle.span_table.specs.{ascending, Tables.{SpanTable, row_cmp}};
 
     ghost Value = { SpanTable };
 
-    ghost view = { λ t. record { schema = t.schema; counts = t.counts; rows = t.rows.items } };
+    ghost view = { λ t. record { schema = t.schema; counts = t.counts; rows = ascending row_cmp t.rows.items } };
 
-    ghost invariant = { λ t. RowsRise t.rows.items };
+    ghost invariant = { λ t. IsDistinct (eq_by_cmp row_cmp) t.rows.items };
 }
 
 impl Table {
@@ -77,11 +80,25 @@ impl Table {
         self.counts
     }
 
-    /// In ascending order of keys.
+    /// In whatever order.
     pub fn rows(&self) -> &[Row]
-        ensures rows { result.now ≡ self.now.rows }
-        ensures rise { RowsRise self.now.rows }
+        ensures { AreRowsOf self.now.rows result.now }
     {
         &self.rows
+    }
+
+    /// The same, its rows kept in order. Then it takes a comparison for each to put them in order again.
+    pub fn in_order(self) -> Table
+        ensures { result ≡ self }
+    {
+        let rows = in_order(self.rows);
+        Table { rows, ..self }
+    }
+
+    /// How many rows there are.
+    pub fn len(&self) -> usize
+        ensures { result ≡ length self.now.rows }
+    {
+        self.rows.len()
     }
 }

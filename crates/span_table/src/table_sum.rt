@@ -1,6 +1,6 @@
 //! Tables of runs, and tables that were printed, added as they come.
-ghost use Rattle.std.specs.Prelude.{◌≡◌, ◌+◌, ◌<◌, ◌≤◌, ◌^◌, ◌∷◌, [], option_copied, IfOk, IfErr, OnErr, OnOk};
-ghost use Rattle.span_table.specs.{Adding.{JoinsRuns, TakesRuns, add_tables, with_counts, with_row, with_run}, Columns.run_of, Kept.rows_with, Tables.{RowsRise, table_of}, declared.table_sum.SumFault.TheVariants.TooMany};
+ghost use Rattle.std.specs.Prelude.{◌≡◌, ◌+◌, ◌<◌, ◌≤◌, ◌^◌, ◌∷◌, [], map, option_copied, IfOk, IfErr, OnErr, OnOk};
+ghost use Rattle.span_table.specs.{Adding.{JoinsRuns, TakesRuns, add_tables, with_counts, with_row, with_run}, Columns.run_of, Kept.rows_with, Tables.{AreRowsOf, RowsRise, row_of, table_of}, declared.table_sum.SumFault.TheVariants.TooMany};
 
 use crate::collected::RunColumns;
 use crate::counts::TableCounts;
@@ -173,7 +173,8 @@ impl TableSum {
         })
     }
 
-    /// With the parts of another sum of the same schema. Both are put in order, and it costs a comparison for each row.
+    /// With the parts of another sum of the same schema. One that was put in order is merged, which costs a comparison for each row; the rows
+    /// of another are looked up.
     pub fn join(self, other: TableSum) -> Result<TableSum, SumFault>
         ensures added { IfOk result (λ sum. sum.table
             ≡ add_tables self.table.schema (self.table ∷ other.table ∷ [])) }
@@ -186,14 +187,26 @@ impl TableSum {
         if self.parts + other.parts >= PARTS {
             return Err(SumFault::TooMany);
         }
+        let counts = self.counts.plus(&other.counts)?;
+        let parts = self.parts + other.parts;
+        if other.rows.is_empty() {
+            let mut groups = self.groups;
+            groups.add_all(other.groups)?;
+            return Ok(TableSum {
+                counts,
+                groups,
+                parts,
+                ..self
+            });
+        }
         let groups = self.groups.none_beside();
         let rows = all_in_order(self.rows, self.groups)?;
         let more = all_in_order(other.rows, other.groups)?;
         Ok(TableSum {
-            counts: self.counts.plus(&other.counts)?,
+            counts,
             rows: merged(rows, more)?,
             groups,
-            parts: self.parts + other.parts,
+            parts,
             ..self
         })
     }
@@ -205,9 +218,23 @@ impl TableSum {
         Ok(Table {
             schema: self.schema,
             counts: self.counts,
-            rows: all_in_order(self.rows, self.groups)?,
+            rows: all_mixed(self.rows, self.groups)?,
         })
     }
+}
+
+// Rows in order and what was added to them since, in whatever order.
+fn all_mixed(rows: Vec<Row>, groups: Groups) -> Result<Vec<Row>, AllocError>
+    requires rise { RowsRise rows.items }
+    requires kept { RowsRise (map row_of groups) }
+    ensures { IfOk result (λ all. AreRowsOf (rows_with rows.items groups) all.items) }
+{
+    if rows.is_empty() {
+        let rows = groups.into_mixed()?;
+        return Ok(rows);
+    }
+    let rows = all_in_order(rows, groups)?;
+    Ok(rows)
 }
 
 // Rows in order, with what was added to them since.

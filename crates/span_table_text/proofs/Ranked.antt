@@ -1,9 +1,12 @@
 -- No two rows that rise rank alike, so each has its place in a ranking.
 use Rattle.std.specs.{Cmp.IsTotalOrder, List.{AllByRecursion, IsDistinct, Sorted.IsStrictlySortedBy}, Ordering.{eq_by_cmp, is_eq, nat_cmp, ordering_then}, Prelude.filter, declared.cmp.Ordering.{Ordering, TheVariants.{Less, Equal, Greater}}}
-use Rattle.std.proofs.{Common.{◌≡◌, Bool, true, false, cond, List, [], ◌∷◌, refl, ap}, lemmas.Cmp.{back_total, nat_cmp_total, on_total, then_total}}
-use Rattle.span_keyed_tracks.proofs.{Sorted.ascending-sorted, Sorting.ascending-permutation}
-use Rattle.span_journal.proofs.Sorted.{AllByRecursion-map}
-use Rattle.span_table_text.specs.{Number, Row, key_cmp_total, key_cmp, number_by, RowsRise, Ranks.{ranking_order, RankingsHaveEachRow}, Shown.{Wanted, is_wanted, shown_rows}}
+use Rattle.std.proofs.{Common.{◌≡◌, Bool, true, false, cond, List, [], ◌∷◌, refl, ap, sym, subst, ◌∙◌}, lemmas.{Cmp.{back_total, nat_cmp_total, on_total, then_total}, List.Sorted.{IsPermutation-sym, IsPermutation-trans}, Map.Keys.IsDistinct-IsPermutation}}
+use Rattle.span_keyed_tracks.proofs.{Sorted.ascending-sorted, Sorting.{ascending-permutation, sorted-ascending}, Uses.is_eq-turned}
+use Rattle.span_journal.proofs.{Selected.filter-ascending, Sorted.AllByRecursion-map}
+use Rattle.span_table.specs.{KeyLaws.key_cmp-same, Tables.{AreRowsOf, row_cmp}}
+use Rattle.span_table.proofs.Mixed.{AreRowsOf-permutation, RowsRise-sorted, row_cmp-total}
+use Rattle.span_table_text.specs.{Number, Row, key_cmp_total, key_cmp, number_by, RowsRise, Ranks.{ranking_order, ranked, RankingsHaveEachRow}, Shown.{Wanted, is_wanted, shown_rows}}
+use Rattle.span_table_text.proofs.Selected.{IsSorted-strictly}
 
 -- the order of a ranking is total
 pub ranking_order-total : (by : Number) → IsTotalOrder (ranking_order by)
@@ -45,6 +48,43 @@ IsDistinct-rising by (x ∷ xs) sorted = (
 -- nor do those of them that are shown
 pub shown_rows-distinct : (by : Number) (wanted : Wanted) (rows : List Row) → RowsRise rows → IsDistinct (eq_by_cmp (ranking_order by)) (shown_rows wanted rows)
 shown_rows-distinct by wanted rows rise = IsDistinct-rising by (shown_rows wanted rows) (filter-sorted (λ (a b : Row). key_cmp a.key b.key) (λ (row : Row). is_wanted wanted row.key) rows rise)
+
+filter-distinct : {A : Type 0} (e : A → A → Bool) (p : A → Bool) (xs : List A) → IsDistinct e xs → IsDistinct e (filter p xs)
+unfolding IsDistinct
+filter-distinct e p [] distinct = tt
+filter-distinct {A = A} e p (x ∷ xs) distinct = by (p x) (filter-all (λ y. e x y ≡ false) p xs distinct.0) (filter-distinct e p xs distinct.1)
+  where
+    by : (b : Bool) → AllByRecursion (λ y. e x y ≡ false) (filter p xs) → IsDistinct e (filter p xs) → IsDistinct e (cond b (x ∷ filter p xs) (filter p xs))
+    by true apart rest = (apart, rest)
+    by false apart rest = rest
+
+-- of the rows of a table in whatever order, those that are shown are those of the table
+module _ (wanted : Wanted) (rows mixed : List Row) (are : AreRowsOf rows mixed) where
+  pub AreRowsOf-shown : AreRowsOf (shown_rows wanted rows) (shown_rows wanted mixed)
+  AreRowsOf-shown =
+      let test = λ (row : Row). is_wanted wanted row.key in record {
+        distinct = filter-distinct (eq_by_cmp row_cmp) test mixed are.distinct;
+        sorted = ap (filter test) are.sorted ∙ filter-ascending row_cmp-total test (λ a b same. ap (is_wanted wanted) (key_cmp-same a.key b.key same)) mixed;
+      }
+
+  module _ (by : Number) where
+    -- no two of them rank alike
+    pub IsDistinct-shown : IsDistinct (eq_by_cmp (ranking_order by)) (shown_rows wanted mixed)
+    IsDistinct-shown =
+        let shown = shown_rows wanted rows in
+        let rise = RowsRise-sorted rows mixed are in
+        IsDistinct-IsPermutation (eq_by_cmp (ranking_order by)) (is_eq-turned (ranking_order-total by)) shown (shown_rows wanted mixed)
+        (IsPermutation-sym (shown_rows wanted mixed) shown (AreRowsOf-permutation shown (shown_rows wanted mixed) AreRowsOf-shown)) (shown_rows-distinct by wanted rows rise)
+
+    -- they rank as those of the table do
+    pub ranked-shown : ranked by (shown_rows wanted mixed) ≡ ranked by (shown_rows wanted rows)
+    ranked-shown =
+        let total = ranking_order-total by in
+        let shown = shown_rows wanted rows in
+        let rise = RowsRise-sorted rows mixed are in
+        let moved = IsPermutation-trans (shown_rows wanted mixed) shown (ranked by shown) (AreRowsOf-permutation shown (shown_rows wanted mixed) AreRowsOf-shown)
+        (ascending-permutation total shown (shown_rows-distinct by wanted rows rise)) in
+        sym (sorted-ascending total (shown_rows wanted mixed) (ranked by shown) IsDistinct-shown moved (IsSorted-strictly total (ranked by shown) (ascending-sorted total shown)))
 
 -- each row has its place, and no two rank alike
 pub ranked-each : RankingsHaveEachRow

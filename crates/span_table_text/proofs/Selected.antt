@@ -38,7 +38,7 @@ module _ {A : Type 0} {R : A → A → Ordering} (o : IsTotalOrder R) where
       rw next (IsSorted-append (z ∷ xs) ys later second (All-tail (NoneBefore ys) x (z ∷ xs) none) k d (omega arith) (omega (arith, within)))
 
   -- rows that rise are sorted
-  IsSorted-strictly : (xs : List A) → IsStrictlySortedBy R xs → IsSorted R xs
+  pub IsSorted-strictly : (xs : List A) → IsStrictlySortedBy R xs → IsSorted R xs
   unfolding IsStrictlySortedBy
   IsSorted-strictly [] rise k d low within = absurd (omega (arith, within))
   IsSorted-strictly (x ∷ []) rise k d low within = absurd (omega (arith, within))

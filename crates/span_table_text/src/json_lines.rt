@@ -3,10 +3,10 @@ ghost use Rattle.std.specs.{List.list_all, Prelude.{◌≡◌, ◌<◌, ◌^◌,
 ghost use Rattle.span_table_text.specs.{column_name, counts_fit, fit, Json.{json_fits, json_head, json_line, shown_table}, Printed.{IsPrint, KeyFits}, Tokens.{Appends, head_tokens, row_tokens}, declared.json_lines.JsonFault.TheVariants.TooGreat};
 
 use crate::members::{column_names, ended, put_counts, put_key, put_numbers, put_start};
-use crate::shown::{Shown, ShownRow};
+use crate::shown::Shown;
 use json::Writer;
 use span_event::{Text, Unit};
-use span_table::{Row, Schema, Table, TableCounts, counts_fit, fits};
+use span_table::{Row, RowRef, Schema, Table, TableCounts, counts_fit, fits};
 use std::alloc::{AllocError, Global};
 
 /// Why rows were not printed for a machine.
@@ -41,7 +41,7 @@ pub fn json_table(
     ensures too_great { IfErr result (λ fault. fault ≡ TooGreat
         → json_fits shown.now table.now ≡ false) }
 {
-    let Ok(rows) = shown.rows(alloc, table.rows()) else {
+    let Ok(rows) = shown.ordered_rows(alloc, table) else {
         return Err(JsonFault::Memory);
     };
     if !counts_fit(&table.counts()) || !all_fit(&rows) {
@@ -53,18 +53,13 @@ pub fn json_table(
     }
 }
 
-fn all_fit(rows: &[ShownRow]) -> bool
+fn all_fit(rows: &[RowRef]) -> bool
     ensures { result ≡ list_all (λ row. fit row.sums) rows.now }
 {
-    rows.iter().all(|shown| fits(&shown.row.sums))
+    rows.iter().all(|shown| fits(&shown.row().sums))
 }
 
-fn text_of(
-    alloc: Global,
-    unit: Unit,
-    table: &Table,
-    rows: &[ShownRow],
-) -> Result<Vec<u8>, AllocError>
+fn text_of(alloc: Global, unit: Unit, table: &Table, rows: &[RowRef]) -> Result<Vec<u8>, AllocError>
     requires counts { counts_fit table.now.counts ≡ true }
     requires rows { list_all (λ row. fit row.sums) rows.now ≡ true }
     ensures text { IfOk result (λ text. text.items
@@ -88,7 +83,7 @@ fn text_of(
     let mut line = Vec::new(alloc);
     for shown in rows {
         line.clear();
-        line = with_json_row(line, schema, &names, shown.row)?;
+        line = with_json_row(line, schema, &names, shown.row())?;
         out.extend_from_slice(&line)?;
     }
     Ok(out)

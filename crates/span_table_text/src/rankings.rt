@@ -4,10 +4,10 @@ ghost use Rattle.span_table_text.specs.{Ranking.{ranked_line, ranking_of}, Ranks
 
 use crate::lines::{put_runs, put_shown};
 use crate::rows::{number_titles, put_row, put_titles, value_cells};
-use crate::shown::{Shown, ShownRow};
+use crate::shown::Shown;
 use span_event::Unit;
 use span_report::head;
-use span_table::{Number, Schema, Table};
+use span_table::{Number, RowRef, Schema, Table};
 use std::alloc::{AllocError, Global};
 use std::cmp::Ordering;
 
@@ -28,12 +28,7 @@ pub fn ranking(
     let mut out = head(alloc, unit, &table.counts().entries)?;
     put_runs(&mut out, &table.counts(), says_runs)?;
     let mut rows = shown.rows(alloc, table.rows())?;
-    put_shown(
-        &mut out,
-        shown,
-        rows.len() as u128,
-        table.rows().len() as u128,
-    )?;
+    put_shown(&mut out, shown, rows.len() as u128, table.len() as u128)?;
     let schema = table.schema();
     let titles = number_titles(alloc, &schema.numbers)?;
     put_titles(alloc, &mut out, &titles, &schema.columns)?;
@@ -43,20 +38,16 @@ pub fn ranking(
 }
 
 // Which of two comes first.
-fn compare(shown: &ShownRow, other: &ShownRow, by: Number) -> Ordering
+fn compare(shown: &RowRef, other: &RowRef, by: Number) -> Ordering
     ensures { result ≡ ranking_order by shown.now other.now }
 {
-    let (row, next) = (shown.row, other.row);
+    let (row, next) = (shown.row(), other.row());
     let by_key = row.key.cmp(&next.key);
     next.sums.by(by).cmp(&row.sums.by(by)).then(by_key)
 }
 
 // The first rows in the order of a ranking, so many at most. The others are told from them, and not put in order.
-fn first_ranked<'r, 'a>(
-    rows: &'r mut [ShownRow<'a>],
-    by: Number,
-    most: usize,
-) -> &'r mut [ShownRow<'a>]
+fn first_ranked<'r, 'a>(rows: &'r mut [RowRef<'a>], by: Number, most: usize) -> &'r mut [RowRef<'a>]
     requires { IsDistinct (eq_by_cmp (ranking_order by)) rows.old }
     ensures { result.now ≡ take most (ranked by rows.old) }
 {
@@ -73,14 +64,15 @@ fn put_rows(
     alloc: Global,
     out: &mut String,
     schema: &Schema,
-    rows: &[ShownRow],
+    rows: &[RowRef],
 ) -> Result<(), AllocError>
     ensures { OnOk result (string_bytes out.new
         ≡ string_bytes out.old ++ flat_map (ranked_line schema.now) rows.now) }
 {
     for ranked in rows {
-        let cells = value_cells(alloc, &schema.numbers, &ranked.row.sums)?;
-        put_row(alloc, out, &cells, &ranked.row.key)?;
+        let row = ranked.row();
+        let cells = value_cells(alloc, &schema.numbers, &row.sums)?;
+        put_row(alloc, out, &cells, &row.key)?;
     }
     Ok(())
 }

@@ -3,7 +3,7 @@ ghost use Rattle.std.specs.{List.{list_all, list_any}, Prelude.{◌≡◌, IfOk}
 ghost use Rattle.span_table_text.specs.Shown.{is_wanted, key_has, shown_rows, value_has, wants_all};
 
 use span_event::{ArgValue, Text};
-use span_table::{Key, Row};
+use span_table::{Key, Row, RowRef, Table, sorted};
 use std::alloc::{AllocError, Global};
 use std::marker::Model;
 
@@ -22,36 +22,33 @@ impl Model for Shown {
     ghost view = { λ s. record { only = s.only.items; skip = s.skip.items } };
 }
 
-/// A row of a table that is shown.
-#[derive(Drop)]
-pub(crate) struct ShownRow<'a> {
-    pub(crate) row: &'a Row,
-}
-
-impl<'a> Model for ShownRow<'a> {
-    ghost use Rattle.span_table_text.specs.{Row};
-
-    ghost Value = { Row };
-
-    ghost view = { λ r. r.row.now };
-}
-
 impl Shown {
     /// The rows that are shown.
     pub(crate) fn rows<'a>(
         &self,
         alloc: Global,
         rows: &'a [Row],
-    ) -> Result<Vec<ShownRow<'a>>, AllocError>
+    ) -> Result<Vec<RowRef<'a>>, AllocError>
         ensures { IfOk result (λ found. found.items ≡ shown_rows self.now rows.now) }
     {
         let mut found = Vec::new(alloc);
         for row in rows {
             if self.has(&row.key) {
-                found.push(ShownRow { row })?;
+                found.push(RowRef::of(row))?;
             }
         }
         Ok(found)
+    }
+
+    /// The rows of a table that are shown, in ascending order of keys.
+    pub(crate) fn ordered_rows<'a>(
+        &self,
+        alloc: Global,
+        table: &'a Table,
+    ) -> Result<Vec<RowRef<'a>>, AllocError>
+        ensures { IfOk result (λ found. found.items ≡ shown_rows self.now table.now.rows) }
+    {
+        Ok(sorted(self.rows(alloc, table.rows())?))
     }
 
     pub(crate) fn is_all(&self) -> bool

@@ -112,7 +112,7 @@ impl<'a, R: Threads + Wait + RandomSource + Sync, S: Source + Sync> Place<'a, R,
             files,
             &apart.settings,
             view,
-            self.jobs_of(apart.jobs),
+            self.jobs_apart(&apart),
         );
         match gathered {
             Ok(summed) => Ok(ShownFiles {

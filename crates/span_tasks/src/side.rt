@@ -4,6 +4,7 @@ ghost use Rattle.span_runs.specs.declared.stop.Halt.TheVariants.{Memory};
 ghost use Rattle.span_tasks.specs.{AreGathered, GathersOrStops, IsHint, shortened, OfStop, StopsAmong, run_of_files, table_of_run, warnings_of, Sides.{AreOptions, ComeTo, IsNarrowed, IsOfRun}, Summed.summed_of, Together.StopsTogether};
 
 use crate::place::Place;
+use crate::sides::Wanted;
 use crate::summed::summed_of;
 use crate::together::TogetherRun;
 use span_collect::Settings;
@@ -13,7 +14,7 @@ use span_names::HashKeys;
 use span_narrowing::narrowed;
 use span_request::TableOptions;
 use span_runs::{
-    Gathered, Gathering, Halt, Listed, Name, Said, Source, Stop, gather_apart, table_of_run,
+    Gathered, Gathering, Halt, Jobs, Listed, Name, Said, Source, Stop, gather_apart, table_of_run,
 };
 use span_table::{Schema, Table, TableSum, copies_of};
 use std::alloc::{AllocError, Global};
@@ -34,11 +35,20 @@ pub(crate) struct Side {
     pub(crate) hints: Vec<u8>,
 }
 
-/// How files are collected that are runs of their own: in so many jobs at once, or one for each processor that the system grants.
+/// How files are collected that are runs of their own: in so many jobs at once, or one for each processor that the system grants; and
+/// whether each job puts what it gathers in order, as it pays where all is printed so.
 #[derive(Clone, Copy)]
 pub(crate) struct Apart {
     pub(crate) settings: Settings,
     pub(crate) jobs: Option<u32>,
+    pub(crate) sort: bool,
+}
+
+// A table, its rows put in order where that is wanted.
+fn kept(table: Table, sort: bool) -> Table
+    ensures { result ≡ table }
+{
+    if sort { table.in_order() } else { table }
 }
 
 /// A list of one table.
@@ -233,27 +243,37 @@ impl<'a, R: Threads + Wait + RandomSource + Sync, S: Source + Sync> Place<'a, R,
             files,
             &apart.settings,
             &schema,
-            self.jobs_of(apart.jobs),
+            self.jobs_apart(apart),
         )
     }
 
     /// The side with its tables narrowed.
-    pub(crate) fn narrowed(&self, options: &TableOptions, side: Side) -> Result<Side, AllocError>
-        ensures narrowed { IfOk result (IsNarrowed options.now.narrowing side) }
+    pub(crate) fn narrowed(&self, wanted: Wanted, side: Side) -> Result<Side, AllocError>
+        ensures narrowed { IfOk result (IsNarrowed wanted.entry.options.now.narrowing side) }
         ensures hints { IfOk result (λ new. new.hints ≡ side.hints) }
     {
+        let (options, sort) = (wanted.options, wanted.sort);
         let narrowing = &options.narrowing;
         let keys = HashKeys::random(self.rt);
         let schema = narrowing.shown_schema(self.alloc, &side.schema)?;
         let mut tables = Vec::with_capacity(self.alloc, side.tables.len())?;
         for table in side.tables {
-            tables.push(narrowed(self.alloc, keys, narrowing, table)?)?;
+            let table = narrowed(self.alloc, keys, narrowing, table)?;
+            tables.push(kept(table, sort))?;
         }
         Ok(Side {
             schema,
             tables,
             ..side
         })
+    }
+
+    /// In which jobs files are gathered.
+    pub(crate) fn jobs_apart(&self, apart: &Apart) -> Jobs {
+        Jobs {
+            most: self.jobs_of(apart.jobs),
+            sort: apart.sort,
+        }
     }
 
     /// How many jobs there are at once: so many, or one for each processor that the system grants.

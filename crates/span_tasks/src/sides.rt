@@ -11,11 +11,13 @@ use std::random::RandomSource;
 use std::sync::Wait;
 use std::thread::Threads;
 
-/// What tables are gathered: of what, in how many jobs, by what, and whether a table of each is wanted or one of all.
+/// What tables are gathered: of what, in how many jobs, and whether these put them in order; by what, and whether a table of each is wanted
+/// or one of all.
 #[derive(Clone, Copy)]
 pub(crate) struct Wanted<'a> {
     pub(crate) items: Items,
     pub(crate) jobs: Option<u32>,
+    pub(crate) sort: bool,
     pub(crate) options: &'a TableOptions,
     pub(crate) each: bool,
 }
@@ -40,7 +42,7 @@ impl<'a, R: Threads + Wait + RandomSource + Sync, S: Source + Sync> Place<'a, R,
             Ok(side) => side,
             Err(halt) => return Err(halt),
         };
-        match self.narrowed(wanted.options, side) {
+        match self.narrowed(wanted, side) {
             Ok(side) => Ok(side),
             Err(_) => Err(Halt::Memory),
         }
@@ -87,6 +89,7 @@ impl<'a, R: Threads + Wait + RandomSource + Sync, S: Source + Sync> Place<'a, R,
         let apart = Apart {
             settings,
             jobs: wanted.jobs,
+            sort: wanted.sort,
         };
         if wanted.each {
             return self.each_side(&apart, wanted.options, files);
@@ -112,10 +115,10 @@ impl<'a, R: Threads + Wait + RandomSource + Sync, S: Source + Sync> Place<'a, R,
             Ok(sides) => sides,
             Err(halt) => return Err(halt),
         };
-        let Ok(base) = self.narrowed(wanted.options, base) else {
+        let Ok(base) = self.narrowed(wanted, base) else {
             return Err(Halt::Memory);
         };
-        let Ok(other) = self.narrowed(wanted.options, other) else {
+        let Ok(other) = self.narrowed(wanted, other) else {
             return Err(Halt::Memory);
         };
         Ok(Sides { base, other })

@@ -34,7 +34,7 @@ impl<'a, R: Threads + Wait + RandomSource + Sync, S: Source + Sync> Place<'a, R,
             files,
             &apart.settings,
             columns,
-            self.jobs_of(apart.jobs),
+            self.jobs_apart(&apart),
         ) {
             Ok(gathered) => gathered,
             Err(halt) => return Err(halt),

@@ -58,6 +58,7 @@ impl<'a, R: Threads + Wait + RandomSource + Sync, S: Source + Sync> Place<'a, R,
         let wanted = Wanted {
             items: task.items,
             jobs: task.jobs,
+            sort: matches!(form, TableForm::Json),
             options: &task.options,
             each: false,
         };
@@ -94,6 +95,7 @@ impl<'a, R: Threads + Wait + RandomSource + Sync, S: Source + Sync> Place<'a, R,
         let wanted = Wanted {
             items: task.items,
             jobs: task.jobs,
+            sort: true,
             options: &task.options,
             each: false,
         };
@@ -133,6 +135,7 @@ impl<'a, R: Threads + Wait + RandomSource + Sync, S: Source + Sync> Place<'a, R,
         let wanted = Wanted {
             items: task.items,
             jobs: task.jobs,
+            sort: true,
             options: &task.options,
             each: true,
         };

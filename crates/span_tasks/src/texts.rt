@@ -10,7 +10,7 @@ use span_event::{Fault, Unit};
 use span_page::PageFault;
 use span_request::{ComparisonForm, RepeatsForm, Repetitions, TableForm, TableOptions};
 use span_runs::Halt;
-use span_table::{Schema, Table};
+use span_table::{OrderedTable, Schema, Table};
 use span_table_text::{JsonFault, json_table, ranking};
 use std::alloc::{AllocError, Global};
 
@@ -64,6 +64,29 @@ impl<'a> TableTexts<'a> {
             (changes_fit form self.now.options.now base.now other.now ≡ false)
             × (lines ≡ run_line (number_of TooGreatFault)))) }
     {
+        let Ok(base) = OrderedTable::of(self.alloc, base) else {
+            return Err(Halt::Memory);
+        };
+        let Ok(other) = OrderedTable::of(self.alloc, other) else {
+            return Err(Halt::Memory);
+        };
+        self.ordered_changes(form, &base, &other)
+    }
+
+    fn ordered_changes(
+        &self,
+        form: ComparisonForm,
+        base: &OrderedTable,
+        other: &OrderedTable,
+    ) -> Result<Vec<u8>, Halt>
+        ensures text { IfOk result (λ text. text.items ≡ changes_text self.now.unit form
+            self.now.options.now self.now.says_runs base.now other.now) }
+        ensures fits { IfOk result (λ text.
+            changes_fit form self.now.options.now base.now other.now ≡ true) }
+        ensures stop { IfErr result (OfStop (λ lines.
+            (changes_fit form self.now.options.now base.now other.now ≡ false)
+            × (lines ≡ run_line (number_of TooGreatFault)))) }
+    {
         match form {
             ComparisonForm::Text { most } => {
                 let asked = self.comparing(other.schema(), most);
@@ -98,18 +121,42 @@ impl<'a> TableTexts<'a> {
             base.now.tables.items other.now.tables.items ≡ false)
             × (lines ≡ run_line (number_of TooGreatFault)))) }
     {
-        let (alloc, schema) = (self.alloc, &base.schema);
-        match asked.form {
+        let Ok(tables) = all_ordered(self.alloc, &base.tables) else {
+            return Err(Halt::Memory);
+        };
+        let Ok(others) = all_ordered(self.alloc, &other.tables) else {
+            return Err(Halt::Memory);
+        };
+        self.spreads(asked.form, &base.schema, &tables, &others)
+    }
+
+    fn spreads(
+        &self,
+        form: RepeatsForm,
+        schema: &Schema,
+        base: &[OrderedTable],
+        other: &[OrderedTable],
+    ) -> Result<Vec<u8>, Halt>
+        ensures text { IfOk result (λ text. text.items ≡ repeats_text self.now.unit schema.now form
+            self.now.options.now base.now other.now) }
+        ensures fits { IfOk result (λ text.
+            repeats_fit schema.now form self.now.options.now base.now other.now ≡ true) }
+        ensures stop { IfErr result (OfStop (λ lines.
+            (repeats_fit schema.now form self.now.options.now base.now other.now ≡ false)
+            × (lines ≡ run_line (number_of TooGreatFault)))) }
+    {
+        let alloc = self.alloc;
+        match form {
             RepeatsForm::Text { most } => {
                 let asked = self.comparing(schema, most);
-                match repeats(alloc, &schema.columns, &base.tables, &other.tables, &asked) {
+                match repeats(alloc, &schema.columns, base, other, &asked) {
                     Ok(text) => Ok(text),
                     Err(_) => Err(Halt::Memory),
                 }
             }
             RepeatsForm::Json => {
                 let asked = self.comparing(schema, None);
-                match json_repeats(alloc, schema, &base.tables, &other.tables, &asked) {
+                match json_repeats(alloc, schema, base, other, &asked) {
                     Ok(text) => Ok(text),
                     Err(fault) => Err(halt_of_text(alloc, fault)),
                 }
@@ -131,6 +178,17 @@ impl<'a> TableTexts<'a> {
             most,
         }
     }
+}
+
+// Tables with their rows in order.
+fn all_ordered(alloc: Global, tables: &[Table]) -> Result<Vec<OrderedTable<'_>>, AllocError>
+    ensures { IfOk result (λ ordered. ordered.items ≡ tables.now) }
+{
+    let mut ordered = Vec::with_capacity(alloc, tables.len())?;
+    for table in tables {
+        ordered.push(OrderedTable::of(alloc, table)?)?;
+    }
+    Ok(ordered)
 }
 
 // A text for other programs was not made.

@@ -92,13 +92,20 @@ pub(crate) fn warned_of_page(
 fn any_has_rows(tables: &[Table]) -> bool
     ensures { result ≡ list_any has_rows tables.now }
 {
-    tables.iter().any(|table| !table.rows().is_empty())
+    tables.iter().any(|table| table.len() > 0)
 }
 
 fn any_has_column(tables: &[Table], place: usize) -> bool
     ensures { result ≡ list_any (has_column place) tables.now }
 {
-    tables.iter().any(|table| has_column(table.rows(), place))
+    tables.iter().any(|table| table_has(table, place))
+}
+
+// Whether the column has a value in some row of the table.
+fn table_has(table: &Table, place: usize) -> bool
+    ensures { result ≡ has_column place table.now }
+{
+    has_column(table.rows(), place)
 }
 
 fn has_column(rows: &[Row], place: usize) -> bool

@@ -4,7 +4,7 @@ use super::told::told;
 use span_comparisons::{Comparing, json_repeats, repeats};
 use span_event::{Text, Unit};
 use span_names::HashKeys;
-use span_table::{Column, Number, Of, Schema, Table};
+use span_table::{Column, Number, Of, OrderedTable, Schema, Table};
 use span_table_text::Shown;
 use std::alloc::Global;
 use std::test::Fail;
@@ -37,7 +37,8 @@ fn table_of_a_file(alloc: Global) -> Option<Table> {
 #[test]
 fn a_side_may_have_no_repetitions(rt: HostRuntime) -> Result<(), Fail> {
     let alloc = rt.alloc();
-    let one = [table_of_a_file(alloc).ok_or("no table")?];
+    let table = table_of_a_file(alloc).ok_or("no table")?;
+    let one = [OrderedTable::of(alloc, &table)?];
     let (unit, by, columns) = (Unit::Microseconds, Number::Total, [Column::File]);
     let schema = Schema::usual(alloc, Of::Spans, &columns)?;
     let all = Shown {

@@ -1,5 +1,5 @@
 use Rattle.std.specs.Prelude.{filter}
-use Rattle.std.proofs.{Common.{◌≡◌, ◌+◌, Bool, true, false, cond, List, ◌∷◌, [], ◌++◌, map, take, refl, sym, ap, subst, ◌∙◌, append_assoc, arith}, lemmas.List.{map-append, take_all, take_more, Elements.filter-append}}
+use Rattle.std.proofs.{Common.{◌≡◌, ◌+◌, Bool, true, false, cond, List, ◌∷◌, [], ◌++◌, get_or, map, take, refl, sym, ap, subst, ◌∙◌, append_assoc, arith}, lemmas.List.{map-append, take_all, take_more, Elements.filter-append}}
 use Rattle.span_comparisons.specs.{Row, Changed.{Classifies, base_keys, from_other, is_new, new_key}, Changes.{Change, compared_at}}
 use Rattle.span_comparisons.proofs.Compared.{Classifies-few, from_other-is}
 use Rattle.span_comparisons.proofs.changes.classify_new.Goals as goal
@@ -18,12 +18,13 @@ loop-row-preserved c =
     let base = c.args.base.now in
     let other = c.args.other.now in
     let at = c.loop-row.row-index in
-    let row = c.row-item.result in
+    let row = c.row.result.now in
+    let stands = c.row.ensures ∙ c.row-item.is ∙ ap (get_or other at) (sym c.row.ensures) in
     let make = λ (r : Row). compared_at base other r.key in
     let news = λ (rows : List Row). map make (filter (is_new base) rows) in
-    let is = from_other-is base other c.requires.base c.requires.other row at c.loop-row-test.true (sym c.row-item.is) in
+    let is = from_other-is base other c.requires.base c.requires.other row at c.loop-row-test.true (sym stands) in
     let one : new_key base row ≡ news (row ∷ []) = by make row (is_new base row) is in
-    let more : take (at + 1) other ≡ take at other ++ row ∷ [] = take_more other at row c.loop-row-test.true ∙ ap (λ r. take at other ++ r ∷ []) (sym c.row-item.is) in
+    let more : take (at + 1) other ≡ take at other ++ row ∷ [] = take_more other at row c.loop-row-test.true ∙ ap (λ r. take at other ++ r ∷ []) (sym stands) in
     let passed : news (take (at + 1) other) ≡ news (take at other) ++ news (row ∷ []) =
     ap news more ∙ ap (map make) (filter-append (is_new base) (take at other) (row ∷ [])) ∙ map-append make (filter (is_new base) (take at other)) (filter (is_new base) (row ∷ [])) in
     record {

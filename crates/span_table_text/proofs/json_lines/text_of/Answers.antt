@@ -20,17 +20,17 @@ loop-shown-preserved c =
     let more : take (i + 1) rows ≡ take i rows ++ row ∷ [] = take_more rows i row c.loop-shown-test.true ∙ ap (λ r. take i rows ++ r ∷ []) (sym c.shown-item.is) in
     let fits : KeyFits schema.columns row.key =
     subst (λ (s : Schema). KeyFits s.columns row.key) c.schema-schema.ensures
-    (subst (λ (r : Row). KeyFits c.schema-schema.result.now.columns r.key) c.shown.view_is c.in_ok-line.ensures.key_fits) in
+    (subst (λ (r : Row). KeyFits c.schema-schema.result.now.columns r.key) c.row.ensures c.in_ok-line.ensures.key_fits) in
     let f : Row → Bytes = json_line schema in
     let head = json_head schema c.args.unit (length rows) c.args.table.now.counts in
     let printed : c.in_ok-line.line.items ≡ c.clear.new.self.items ++ f row =
     subst (λ (s : Schema). c.in_ok-line.line.items ≡ c.clear.new.self.items ++ json_line s row) c.schema-schema.ensures
-    (subst (λ (r : Row). c.in_ok-line.line.items ≡ c.clear.new.self.items ++ json_line c.schema-schema.result.now r) c.shown.view_is c.in_ok-line.ensures.line) in
+    (subst (λ (r : Row). c.in_ok-line.line.items ≡ c.clear.new.self.items ++ json_line c.schema-schema.result.now r) c.row.ensures c.in_ok-line.ensures.line) in
     let line : c.in_ok-line.line.items ≡ f row = printed ∙ ap (λ l. l ++ f row) c.clear.ensures.items in
     let appended = c.in_ok-extend_from_slice.ensures.items ∙ ap (λ l. c.loop-shown.out.items ++ l) (c.deref-in-loop-shown-2.ensures.value ∙ line) in
     let utf8 : IsUtf8 (f row) =
     subst (λ (s : Schema). IsUtf8 (json_line s row)) c.schema-schema.ensures
-    (subst (λ (r : Row). IsUtf8 (json_line c.schema-schema.result.now r)) c.shown.view_is c.in_ok-line.ensures.utf8) in
+    (subst (λ (r : Row). IsUtf8 (json_line c.schema-schema.result.now r)) c.row.ensures c.in_ok-line.ensures.utf8) in
     let all : flat_map f (take (i + 1) rows) ≡ flat_map f (take i rows) ++ f row =
     ap (flat_map f) more ∙ flat_map-append f (take i rows) (row ∷ []) ∙ ap (λ l. flat_map f (take i rows) ++ l) (append-nil (f row)) in
     record {

@@ -1,7 +1,7 @@
 use Rattle.std.proofs.Common.{ap, ◌∙◌, sym}
 use Rattle.span_runs.proofs.Stopping.{OfStop-weaker}
 use Rattle.span_tasks.specs.{Schema, comparison_of, json_changes_fit, json_comparison_of, leading_number}
-use Rattle.span_tasks.proofs.texts.TableTexts.changes.Goals as goal
+use Rattle.span_tasks.proofs.texts.TableTexts.ordered_changes.Goals as goal
 
 -- the comparison is what the form asks for
 pub returns-in-Ok-clause-text : goal.returns-in-Ok-clause-text
