@@ -1,6 +1,6 @@
 -- Tables are added, and lose nothing by it.
-use Rattle.std.specs.{List.{cons_option, list_any, Sorted.IsPermutation}, Option.option_map, Prelude.{flat_map, max, nat_lt, slice_get, sum_by}}
-use Rattle.std.proofs.{Common.{◌≡◌, ℕ, ◌+◌, ◌||◌, Bool, true, false, arith, List, [], ◌∷◌, ◌++◌, Option, Some, None, map, refl, sym, ap, ap₂, subst, ◌∙◌}, lemmas.{Grind.flat_map-append, List.{map-append, map-id, Sorted.{IsPermutation-map, list_any-IsPermutation, sum_by-IsPermutation}, Sums.{sum_by-append, sum_by-cons}}, Option.slice_get-map, Simd.map-map}}
+use Rattle.std.specs.{List.{cons_option, list_any, Sorted.IsPermutation}, Option.option_map, Prelude.{flat_map, nat_lt, slice_get, sum_by}}
+use Rattle.std.proofs.{Common.{◌≡◌, ℕ, ◌+◌, ◌||◌, arith, List, [], ◌∷◌, ◌++◌, Option, Some, None, map, refl, sym, ap, ap₂, subst, ◌∙◌}, lemmas.{Grind.flat_map-append, List.{map-append, map-id, Sorted.{IsPermutation-map, list_any-IsPermutation, sum_by-IsPermutation}, Sums.{sum_by-append, sum_by-cons}}, Option.slice_get-map, Simd.map-map}}
 use Rattle.span_self_time.proofs.Mapped.{sum_by-map}
 use Rattle.span_keyed_tracks.proofs.{Keyed.has_key, SameKeys.step_keys}
 use Rattle.span_table.specs.{Thread, AsyncRow, Keyed, keys_in, steps_at, CountRow, accepted, async_rows, thread_keys, Timed, timed_spans, thread_events, closed_spans, parent_of, Adding.{AddingLosesNothing, AreAmong, Choice, DroppingAdds, OrderIsNothing, keyed_by, keyed_row, keyed_rows, picked, schema_by}, Columns.{async_value_at, value_at}, KeyLaws.{key_cmp_total, key_cmp-same}, Keys.{TableKey, key_cmp}, Numbers.set_of, Sums.{no_sums, with_sums}, Tables.{KeyedSums, Run, Schema, SpanTable, called, counts_of, counts_together, keyed_async, keyed_span, row_of, rows_of, run_sums, schema_sums, sums_of, sums_together, table_of, thread_sums, with_only}, declared.{number_set.NumberSet.NumberSet, column.Column.Column, counts.TableCounts.TableCounts, of.Of.{Of, TheVariants.{Spans, Async}}, sums.Sums.Sums, table.Row.Row}}

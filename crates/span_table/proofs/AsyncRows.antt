@@ -6,7 +6,7 @@ use Rattle.span_self_time.proofs.Mapped.{sum_by-map}
 use Rattle.span_keyed_tracks.proofs.{InKeyOrder.AreApart-distinct, Keyed.{has_key, neither}, SameKeys.step_keys, Sorting.ascending-permutation, Uses.{AreApart, is_eq-turned}}
 use Rattle.span_journal.proofs.Sorted.{map-map}
 use Rattle.span_table.specs.{AsyncRow, Keyed, ascending, entry_of, steps_at, async_rows, KeyLaws.{key_cmp_total, key_cmp-same}, Keys.{TableKey, key_cmp}, Laws.{RowsAddUpToAsync, RowsAreAsyncRows, async_columns, of_async_row}, Numbers.{only_in, set_of, usual_numbers}, Sums.{no_sums, with_sums}, Tables.{KeyedSums, async_sums, keyed_async, row_of, rows_of, sums_of_async, sums_together, table_of, usual_schema, with_only}, declared.{audience.Audience.TheVariants.Programs, number_set.NumberSet.NumberSet, of.Of.TheVariants.Async, sums.Sums.Sums, table.Row.Row}}
-use Rattle.span_table.proofs.{AddedTables.{regrouped, rows-regrouped}, Alike.AddUpAlike-grouped, Tallies.{number-total, sums_together-one, under}}
+use Rattle.span_table.proofs.{AddedTables.{rows-regrouped}, Alike.AddUpAlike-grouped, Tallies.{number-total, sums_together-one}}
 
 abbrev Entry : Type 0
 Entry = Keyed TableKey Sums

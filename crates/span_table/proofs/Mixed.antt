@@ -1,6 +1,6 @@
 -- Rows in whatever order.
 use Rattle.std.specs.{Cmp.IsTotalOrder, List.{IsDistinct, Sorted.{IsPermutation, IsStrictlySortedBy}}, Map.keys_of, Ordering.{eq_by_cmp, is_eq}, declared.cmp.Ordering.TheVariants.Less}
-use Rattle.std.proofs.{Common.{◌≡◌, false, List, [], ◌∷◌, length, map, refl, sym, ap, subst, ◌∙◌}, lemmas.{Cmp.on_total, List.Sorted.length_permutation}}
+use Rattle.std.proofs.{Common.{◌≡◌, false, List, [], ◌∷◌, length, map, refl, sym, ap, subst}, lemmas.{Cmp.on_total, List.Sorted.length_permutation}}
 use Rattle.span_keyed_tracks.proofs.{InKeyOrder.AreApart-distinct, KeyOrder.{IsDistinct-rows, ascending-rows}, Sorted.{AllByRecursion-map, ascending-sorted}, Sorting.ascending-permutation}
 use Rattle.span_table.specs.{AreDistinct, in_key_order, KeyLaws.{key_cmp_total, key_cmp-same}, Keys.key_cmp, Tables.{AreRowsOf, RowsRise, SumsByKey, row_cmp, row_of}, declared.table.Row.Row}
 use Rattle.span_table.proofs.OwnRows.{ascending-own}

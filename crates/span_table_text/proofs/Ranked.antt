@@ -1,6 +1,6 @@
 -- No two rows that rise rank alike, so each has its place in a ranking.
 use Rattle.std.specs.{Cmp.IsTotalOrder, List.{AllByRecursion, IsDistinct, Sorted.IsStrictlySortedBy}, Ordering.{eq_by_cmp, is_eq, nat_cmp, ordering_then}, Prelude.filter, declared.cmp.Ordering.{Ordering, TheVariants.{Less, Equal, Greater}}}
-use Rattle.std.proofs.{Common.{◌≡◌, Bool, true, false, cond, List, [], ◌∷◌, refl, ap, sym, subst, ◌∙◌}, lemmas.{Cmp.{back_total, nat_cmp_total, on_total, then_total}, List.Sorted.{IsPermutation-sym, IsPermutation-trans}, Map.Keys.IsDistinct-IsPermutation}}
+use Rattle.std.proofs.{Common.{◌≡◌, Bool, true, false, cond, List, [], ◌∷◌, refl, ap, sym, ◌∙◌}, lemmas.{Cmp.{back_total, nat_cmp_total, on_total, then_total}, List.Sorted.{IsPermutation-sym, IsPermutation-trans}, Map.Keys.IsDistinct-IsPermutation}}
 use Rattle.span_keyed_tracks.proofs.{Sorted.ascending-sorted, Sorting.{ascending-permutation, sorted-ascending}, Uses.is_eq-turned}
 use Rattle.span_journal.proofs.{Selected.filter-ascending, Sorted.AllByRecursion-map}
 use Rattle.span_table.specs.{KeyLaws.key_cmp-same, Tables.{AreRowsOf, row_cmp}}

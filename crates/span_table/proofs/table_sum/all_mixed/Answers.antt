@@ -1,5 +1,5 @@
 use Rattle.std.proofs.{Common.{◌≡◌, [], List, sym, subst, arith}, lemmas.{Grind.common_steps, List.nil_from_length}}
-use Rattle.span_table.specs.{Kept.rows_with, Tables.AreRowsOf, declared.table.Row.Row}
+use Rattle.span_table.specs.{Tables.AreRowsOf, declared.table.Row.Row}
 use Rattle.span_table.proofs.{Kept.rows_with-kept, Mixed.AreRowsOf-rise}
 use Rattle.span_table.proofs.table_sum.all_mixed.Goals as goal
 

@@ -1,5 +1,5 @@
 use Rattle.std.specs.{List.IsDistinct, Ordering.eq_by_cmp}
-use Rattle.std.proofs.{Common.{◌≡◌, length, take, rules, sym, ap, subst, ◌∙◌, append_assoc, arith}, lemmas.{Grind.common_steps, List.Sorted.length_permutation}}
+use Rattle.std.proofs.{Common.{◌≡◌, length, take, sym, ap, subst, ◌∙◌, append_assoc, arith}, lemmas.{Grind.common_steps}}
 use Rattle.span_table_text.specs.{Ranks.{ranked, ranking_order}, Shown.shown_rows}
 use Rattle.span_table.proofs.Mixed.{length-AreRowsOf}
 use Rattle.span_table_text.proofs.Ranked.{AreRowsOf-shown, IsDistinct-shown, ranked-shown}

@@ -1,6 +1,6 @@
 use Rattle.std.specs.{Option.option_map, Prelude.slice_get}
-use Rattle.std.proofs.{Common.{Bool, List, refl, ◌≡◌, ◌∷◌, [], map, Some, ap, ap₂, subst, sym, ◌∙◌}, lemmas.{List.map_push, Option.{slice_get-map, slice_get_read}, Simd.map-map}}
-use Rattle.span_table.specs.{Bytes, Keyed, Span, Timed, timed_spans, thread_events, closed_spans, length_of, spans_of, Collected.{KnowOuter, KnowParents, Takes, outer_at, place_at, span_at}, Columns.value_at, Keys.TableKey, Numbers.only_in, Tables.{called, keyed_span, span_key, sums_of, sums_of_span, with_only}, declared.sums.Sums.Sums}
+use Rattle.std.proofs.{Common.{Bool, List, refl, ◌∷◌, [], map, ap, ap₂, subst, sym, ◌∙◌}, lemmas.{List.map_push, Option.{slice_get-map, slice_get_read}, Simd.map-map}}
+use Rattle.span_table.specs.{Bytes, Keyed, Span, Timed, timed_spans, thread_events, closed_spans, length_of, spans_of, Collected.{KnowOuter, KnowParents, Takes, outer_at, place_at, span_at}, Columns.value_at, Keys.TableKey, Numbers.only_in, Tables.{called, keyed_span, sums_of_span, with_only}, declared.sums.Sums.Sums}
 use Rattle.span_table.proofs.{Parents.{span_key-known, spans_of-timed, sums_of-known}, Summing.{Takes-all, Takes-next}}
 use Rattle.span_table.proofs.collected.RunColumns.add_thread.Goals as goal
 

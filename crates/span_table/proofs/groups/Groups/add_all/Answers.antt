@@ -1,5 +1,5 @@
-use Rattle.std.proofs.{Common.{◌≡◌, ◌++◌, ◌∷◌, [], List, map, rules, refl, sym, ap, subst, ◌∙◌, append_assoc}, lemmas.List.{append-nil, map-append}}
-use Rattle.span_table.specs.{in_key_order, Adding.{keyed_row, keyed_rows}, Collected.Takes, Keys.{TableKey, key_cmp}, Tables.{KeyedSums, SumsByKey, row_of}, declared.{sums.Sums.Sums, table.Row.Row}}
+use Rattle.std.proofs.{Common.{◌≡◌, ◌++◌, ◌∷◌, [], map, rules, refl, sym, ap, subst, ◌∙◌, append_assoc}, lemmas.List.{append-nil, map-append}}
+use Rattle.span_table.specs.{in_key_order, Adding.{keyed_row, keyed_rows}, Collected.Takes, Keys.{TableKey, key_cmp}, Tables.{SumsByKey, row_of}, declared.{sums.Sums.Sums}}
 use Rattle.span_table.proofs.{AddedTables.AddUpAlike-rows, Kept.{Takes-none, Takes-same, Takes-then}, Mixed.{AreRowsOf-entries, AreRowsOf-permutation}}
 use Rattle.span_table.proofs.groups.Groups.add_all.Goals as goal
 

@@ -1,5 +1,5 @@
-use Rattle.std.proofs.Common.{List, map, sym, subst}
-use Rattle.span_table.specs.{Tables.{AreRowsOf, SumsByKey, row_of}, declared.table.Row.Row}
+use Rattle.std.proofs.Common.{map, sym, subst}
+use Rattle.span_table.specs.{Tables.{AreRowsOf, SumsByKey, row_of}}
 use Rattle.span_table.proofs.Mixed.{AreRowsOf-entries}
 use Rattle.span_table.proofs.groups.Groups.into_mixed.Goals as goal
 

@@ -1,6 +1,6 @@
 use Rattle.std.specs.{Cmp.Lexicographic.bytes_decides, List.find, Str.bytes_eq}
 use Rattle.std.proofs.Common.{◌≡◌, ◌≢◌, Bool, true, false, cond, Some, codes, refl, sym, ◌∙◌}
-use Rattle.span_table.specs.{Bytes, Numbers.{async_numbers, number_name}, declared.number.Number.{Number, TheVariants.{SelfTime, Total, Count, Longest, Outer}}}
+use Rattle.span_table.specs.{Bytes, Numbers.{async_numbers, number_name}, declared.number.Number.{TheVariants.{SelfTime, Total, Count, Longest, Outer}}}
 use Rattle.span_table.proofs.number.Number.named.Goals as goal
 
 differs : (name other : Bytes) → other ≢ name → false ≡ bytes_eq name other

@@ -1,5 +1,5 @@
 use Rattle.std.proofs.{Common.{◌≡◌, ◌+◌, ◌<◌, ◌^◌, [], ◌∷◌, sym, ap₂, subst, ◌∙◌, arith}, lemmas.{Grind.common_steps, List.nil_from_length}}
-use Rattle.span_table.specs.{Adding.{SummedTable, add_tables, keyed_rows}, Kept.{IsSummed, rows_with}, Tables.{SumsByKey, row_of}}
+use Rattle.span_table.specs.{Adding.{SummedTable, add_tables}, Kept.{IsSummed, rows_with}, Tables.{SumsByKey}}
 use Rattle.span_table.proofs.Kept.{IsSummed-rows, IsSummed-taken, JoinsRuns-added, rows_with-all, rows_with-joined}
 use Rattle.span_table.proofs.table_sum.TableSum.join.Goals as goal
 

@@ -1,4 +1,4 @@
-use Rattle.std.proofs.Common.{◌+◌, ◌<◌, ◌^◌, List, [], ◌∷◌, ap, subst, ◌∙◌, arith}
+use Rattle.std.proofs.Common.{◌+◌, ◌<◌, ◌^◌, [], ◌∷◌, ap, ◌∙◌, arith}
 use Rattle.span_table.specs.{Adding.{SummedTable, with_run}, Tables.{counts_together, schema_sums}, declared.counts.TableCounts.TableCounts}
 use Rattle.span_table.proofs.Kept.{IsSummed-taken, counts-run, rows_with-run}
 use Rattle.span_table.proofs.table_sum.TableSum.with_run.Goals as goal
