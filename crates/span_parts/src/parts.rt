@@ -123,8 +123,7 @@ impl Parts {
         Ok(Parts { sum, ..self })
     }
 
-    /// With the parts of another sum, of the same schema and unit, of which the same is chosen. Both are put in order, and it costs a
-    /// comparison for each row.
+    /// With the parts of another sum, of the same schema and unit, of which the same is chosen. It costs what `TableSum::join` does.
     pub fn join(self, other: Parts) -> Result<Parts, PartFault>
         ensures { IfOk result (JoinsParts self other) }
     {
