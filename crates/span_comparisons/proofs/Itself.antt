@@ -1,11 +1,12 @@
 -- A table compared with itself.
-use Rattle.std.specs.Prelude.{filter, flat_map, not}
+use Rattle.std.specs.{List.list_all, Prelude.{filter, flat_map, not}}
 use Rattle.std.proofs.{Common.{◌≡◌, ℕ, zero, suc, ◌-◌, take, Bool, Option, Some, None, true, false, cond, ◌&&◌, ◌||◌, ◌==◌, List, [], ◌∷◌, ◌++◌, length, map, refl, sym, ap, ap₂, ◌∙◌, arith, eq-eqb}, lemmas.List.{length-map, map-append}}
 use Rattle.span_self_time.proofs.Mapped.{filter-map}
 use Rattle.span_keyed_tracks.proofs.Keyed.{has_key}
 use Rattle.span_journal.proofs.Sorted.{map-map}
+use Rattle.span_table.specs.Numbers.{all_numbers}
 use Rattle.span_table.proofs.{Alike.{has_key-append, same_keys}, OwnRows.{ascending-own, keys-sorted}}
-use Rattle.span_comparisons.specs.{Bytes, ascending, first_line, unit_line, Sums, Row, sums_at, key_cmp_total, TableKey, key_cmp, shown_line, Wanted, is_wanted, shown_rows, RowsRise, Changes.{Change, change_order, compared, compared_at, is_changed, is_same, same_count, shown_changes}, Comparison.{change_columns, change_line, compared_heads, same_line}, First.{first_lines, more_line}, Laws.TablesCompareWithThemselves}
+use Rattle.span_comparisons.specs.{Bytes, ascending, first_line, unit_line, Number, Sums, Row, number_by, sums_at, key_cmp_total, TableKey, key_cmp, shown_line, Wanted, is_wanted, shown_rows, RowsRise, Changes.{Change, change_order, compared, compared_at, is_changed, is_same, same_count, shown_changes}, Comparison.{change_columns, change_line, compared_heads, same_line}, First.{first_lines, more_line}, Laws.TablesCompareWithThemselves}
 use Rattle.span_comparisons.proofs.{Compared.length-changes, Permuted.key_of}
 
 module _ (rows : List Row) where
@@ -32,11 +33,11 @@ module _ (rows : List Row) where
   shown-itself wanted rise = ap (shown_changes wanted) (compared-itself rise) ∙ filter-map (λ (c : Change). is_wanted wanted c.key) made rows
 
   same_as_itself : (sums : Sums) → is_same (record { base = sums; other = sums }) ≡ true
-  same_as_itself sums =
-      λ i. own sums.self_time i && (own sums.total i && (own sums.count i && (own sums.longest i && (own sums.outer i && (own sums.unclosed i && own sums.points i)))))
+  same_as_itself sums = each all_numbers
     where
-      own : (n : ℕ) → (n == n) ≡ true
-      own n = eq-eqb n n refl
+      each : (numbers : List Number) → list_all (λ number. number_by number sums == number_by number sums) numbers ≡ true
+      each [] = refl
+      each (n ∷ numbers) = ap₂ (λ a b. a && b) (eq-eqb (number_by n sums) (number_by n sums) refl) (each numbers)
 
   none_changed : (xs : List Row) → filter is_changed (map made xs) ≡ []
   none_changed [] = refl

@@ -1,10 +1,11 @@
 -- Two tables compared the other way round.
-use Rattle.std.specs.{BTreeSet.insert_key, Cmp.{nat_cmp_is, nat_eq_equiv}, Fmt.decimal, Int.abs_diff, List.Contains, Ordering.{match_ordering, nat_cmp, ordering_then}, Prelude.{codes, filter, fold, not}, declared.cmp.Ordering.{Ordering, TheVariants.{Less, Equal, Greater}}}
-use Rattle.std.proofs.{Common.{◌≡◌, ℕ, ◌-◌, ◌&&◌, List, [], ◌∷◌, ◌++◌, length, map, refl, sym, ap, ap₂, ◌∙◌, add_comm, arith}, lemmas.List.{length-map, Sorted.{Contains-permutation, IsPermutation-append_comm, IsPermutation-map}}}
+use Rattle.std.specs.{BTreeSet.insert_key, Cmp.{nat_cmp_is, nat_eq_equiv}, Fmt.decimal, Int.abs_diff, List.{Contains, list_all}, Ordering.{match_ordering, nat_cmp, ordering_then}, Prelude.{codes, filter, fold, not}, declared.cmp.Ordering.{Ordering, TheVariants.{Less, Equal, Greater}}}
+use Rattle.std.proofs.{Common.{◌≡◌, ℕ, ◌-◌, List, [], ◌∷◌, ◌++◌, length, map, refl, sym, ap, ap₂, ◌∙◌, add_comm, arith}, lemmas.List.{length-map, Sorted.{Contains-permutation, IsPermutation-append_comm, IsPermutation-map}}}
 use Rattle.span_self_time.proofs.Mapped.{filter-map}
 use Rattle.span_keyed_tracks.proofs.SameKeys.{ascending-members}
 use Rattle.span_journal.proofs.Sorted.{map-map}
 use Rattle.span_comparisons.specs.{ascending, Number, Row, number_by, key_cmp_total, key_cmp-same, TableKey, key_cmp, Wanted, is_wanted, Changes.{Change, by_gap, change_order, changes_of, compared, compared_at, gap_by, gaps_order, is_changed, is_same, order_numbers, same_count, shown_changes}, Laws.{ComparisonsTurn, DifferencesTurn, turned}}
+use Rattle.span_table.specs.Numbers.{all_numbers}
 use Rattle.span_comparisons.proofs.{Compared.length-changes, Permuted.key_of}
 
 keys-turned : (base other : List Row) → ascending key_cmp (map key_of (other ++ base)) ≡ ascending key_cmp (map key_of (base ++ other))
@@ -22,17 +23,7 @@ shown_changes-turned : (wanted : Wanted) (changes : List Change) → shown_chang
 shown_changes-turned wanted changes = filter-map (λ (c : Change). is_wanted wanted c.key) turned changes
 
 is_same-turned : (c : Change) → is_same (turned c).both ≡ is_same c.both
-is_same-turned c =
-    let base = c.both.base in
-    let other = c.both.other in
-    let self_time = nat_eq_equiv.symm other.self_time base.self_time in
-    let total = nat_eq_equiv.symm other.total base.total in
-    let count = nat_eq_equiv.symm other.count base.count in
-    let longest = nat_eq_equiv.symm other.longest base.longest in
-    let outer = nat_eq_equiv.symm other.outer base.outer in
-    let unclosed = nat_eq_equiv.symm other.unclosed base.unclosed in
-    let points = nat_eq_equiv.symm other.points base.points in
-    λ i. self_time i && (total i && (count i && (longest i && (outer i && (unclosed i && points i)))))
+is_same-turned c = λ i. list_all (λ number. nat_eq_equiv.symm (number_by number c.both.other) (number_by number c.both.base) i) all_numbers
 
 filter-turned : (changes : List Change) → filter is_changed (map turned changes) ≡ map turned (filter is_changed changes)
 filter-turned changes = filter-map is_changed turned changes ∙ (λ i. map turned (filter (λ (c : Change). not (is_same-turned c i)) changes))

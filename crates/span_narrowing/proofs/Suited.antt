@@ -9,26 +9,15 @@ use Rattle.span_table.specs.declared.column.Column.TheVariants as each
 
 -- a column that may have any text may have a merged one
 with_merged_text-may : (column : Column) → ((text : Bytes) → MayHave column (Some (Words text))) → (value : Value) → (IsOfArgument value → MayHave column value) → IsOfArgument (with_merged_text value) → MayHave column (with_merged_text value)
-with_merged_text-may column words None may = may
-with_merged_text-may column words (Some Nil) may = may
-with_merged_text-may column words (Some (Flag flag)) may = may
-with_merged_text-may column words (Some (Whole number)) may = may
 with_merged_text-may column words (Some (Words text)) may = λ fits. words (merged text)
-with_merged_text-may column words (Some Other) may = may
+with_merged_text-may column words value may = may
 
 merged_value-may : (column : Column) (value : Value) → (IsOfArgument value → MayHave column value) → IsOfArgument (merged_value column value) → MayHave column (merged_value column value)
-merged_value-may each.Pid value may = may
-merged_value-may each.Tid value may = may
-merged_value-may each.Process value may = may
-merged_value-may each.Thread value may = may
 merged_value-may each.Name value may = with_merged_text-may each.Name (λ text. tt) value may
-merged_value-may each.File value may = may
-merged_value-may each.Cat value may = may
-merged_value-may each.Scope value may = may
-merged_value-may each.Id value may = may
 merged_value-may (each.Argument key) value may = with_merged_text-may (each.Argument key) (λ text. tt) value may
 merged_value-may each.ParentName value may = with_merged_text-may each.ParentName (λ text. tt) value may
 merged_value-may (each.ParentArgument key) value may = with_merged_text-may (each.ParentArgument key) (λ text. tt) value may
+merged_value-may column value may = may
 
 merged_values-may : (columns : List Column) (key : TableKey) → MayBeKey columns key → MayBeKey columns (merged_values columns key)
 merged_values-may [] [] may = tt

@@ -3,7 +3,7 @@ use Rattle.std.specs.{Cmp.Lexicographic.bytes_decides, Prelude.All, Str.bytes_eq
 use Rattle.std.proofs.{Common.{◌≡◌, ◌≢◌, ◌||◌, Bool, true, false, cond, true≢false, Some, arith, codes, length, List, [], ◌∷◌, ◌++◌, append_assoc, map, refl, sym, ap, subst, ◌∙◌}, lemmas.{Bool.or_parts, List.Elements.{All-cons, All-head, All-nil, All-tail}}}
 use Rattle.json.specs.Token.{Token, begin_array, end_array, key, string}
 use Rattle.span_table.specs.Numbers.{number_named}
-use Rattle.span_table.proofs.Only.{are_same-same, number-called}
+use Rattle.span_table.proofs.Numbers.{are_same-same, number-called}
 use Rattle.span_parts.specs.{Bytes, Number, Programs, Schema, AreDistinct, are_same, has_number, list_tokens, number_name, usual_numbers, Guess.MayFollowNumbers}
 
 -- a number that is not among others has another name than each

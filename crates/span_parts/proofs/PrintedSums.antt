@@ -1,9 +1,9 @@
 -- What is printed of a sum of parts is a part.
-use Rattle.std.specs.{List.{cons_option, list_all}, Prelude.{All, slice_get}}
-use Rattle.std.proofs.{Common.{◌≡◌, ℕ, zero, suc, List, [], ◌∷◌, ◌&&◌, ap₂, arith, flat_map, get_or, map, refl, subst, sym}, lemmas.{Bool.and_parts, List.Elements.{All-cons, All-head, All-map, All-nil, All-tail}}}
-use Rattle.span_table.proofs.Only.{has_number-among, only-again}
+use Rattle.std.specs.{List.cons_option, Prelude.{All, slice_get}}
+use Rattle.std.proofs.{Common.{◌≡◌, ℕ, zero, suc, List, [], ◌∷◌, arith, flat_map, get_or, map, refl, subst, sym}, lemmas.List.Elements.{All-cons, All-head, All-map, All-nil, All-tail}}
+use Rattle.span_table.proofs.{Numbers.AreAmong-trans, Only.only-again}
 use Rattle.span_table_text.proofs.RunTables.{All-flat_map, HasRows, HasRows-rows_of, HasRows-shown, IsPart-print, MayBeKey-is, Suits, counted-only, row_sums}
-use Rattle.span_parts.specs.{Bytes, Unit as TimeUnit, Column, Number, Row, TableKey, AreAmong, has_number, Choice, add_tables, chosen_from, keyed_by, keyed_rows, picked, schema_by, IsKeyOf, IsRowOf, IsSchema, IsTable, Schema, SpanTable, counts_of, shown_table, Sum.{AreParts, PartSum, SumsAreParts, SumsParts}}
+use Rattle.span_parts.specs.{Bytes, Unit as TimeUnit, Column, Row, TableKey, AreAmong, Choice, add_tables, chosen_from, keyed_by, keyed_rows, picked, schema_by, IsKeyOf, IsRowOf, IsSchema, IsTable, Schema, SpanTable, counts_of, shown_table, Sum.{AreParts, PartSum, SumsAreParts, SumsParts}}
 
 -- a value that may be in its column, before a key
 cons-key : (columns : List Column) (key : TableKey) (place : ℕ) (more : List Column) (rest : TableKey) → IsKeyOf columns key → IsKeyOf more rest →
@@ -18,13 +18,6 @@ cons-key (column ∷ columns) (value ∷ key) (suc place) more rest is its = con
 IsKeyOf-picked : (places : List ℕ) (columns : List Column) (key : TableKey) → IsKeyOf columns key → IsKeyOf (picked places columns) (picked places key)
 IsKeyOf-picked [] columns key is = tt
 IsKeyOf-picked (place ∷ places) columns key is = cons-key columns key place (picked places columns) (picked places key) is (IsKeyOf-picked places columns key is)
-
--- what is among numbers that are among others is among these
-AreAmong-trans : (few numbers all : List Number) → AreAmong few numbers → AreAmong numbers all → AreAmong few all
-AreAmong-trans [] numbers all one other = refl
-AreAmong-trans (n ∷ few) numbers all one other =
-    let both = and_parts (has_number numbers n) (list_all (has_number numbers) few) one in
-    ap₂ (λ a b. a && b) (has_number-among numbers all n other both.0) (AreAmong-trans few numbers all both.1 other)
 
 -- what is chosen of a row that a table may have suits a table with what is chosen
 chosen-Suits : (choice : Choice) (schema : Schema) (row : Row) → AreAmong choice.numbers schema.numbers → IsRowOf schema row → Suits (schema_by choice schema) (keyed_by choice row)

@@ -4,7 +4,7 @@ ghost use Rattle.std.specs.Prelude.{◌≡◌, ◌≢◌, ◌↔◌, ◌<◌, �
 ghost use Rattle.span_parts.specs.{has_number};
 ghost use Rattle.span_parts.specs.Sum.{FindsPlaces, chosen, named_or_all};
 
-use span_table::{Column, Number, NumberSet, Schema, are_same, copies_of, has_number};
+use span_table::{Column, Number, Schema, are_same, copies_of, has_number};
 use span_table_text::AskedNumbers;
 use std::alloc::{AllocError, Global};
 use std::marker::Model;
@@ -30,29 +30,21 @@ impl<'a> Model for Asked<'a> {
 pub(crate) struct RowChoice<'a> {
     pub(crate) places: &'a [usize],
     pub(crate) numbers: &'a [Number],
-    pub(crate) set: NumberSet,
 }
 
 impl<'a> Model for RowChoice<'a> {
-    ghost use Rattle.std.specs.Prelude.{◌≡◌};
-    ghost use Rattle.span_parts.specs.{Choice, set_of};
+    ghost use Rattle.span_parts.specs.{Choice};
 
     ghost Value = { Choice };
 
     ghost view = { λ c. record { places = c.places.now; numbers = c.numbers.now } };
-
-    ghost invariant = { λ c. c.set ≡ set_of c.numbers.now };
 }
 
 impl<'a> RowChoice<'a> {
     pub(crate) fn of(places: &'a [usize], numbers: &'a [Number]) -> RowChoice<'a>
         ensures { result ≡ record { places = places.entry.now; numbers = numbers.entry.now } }
     {
-        RowChoice {
-            places,
-            numbers,
-            set: NumberSet::of(numbers),
-        }
+        RowChoice { places, numbers }
     }
 }
 

@@ -6,7 +6,7 @@ use crate::guess;
 use crate::room::{LineRoom, is_line};
 use crate::tokens::tokens_of;
 use span_event::{ArgValue, Text};
-use span_table::{Column, Number, NumberSet, Of, Row, Schema, Sums, fits, has_number};
+use span_table::{Column, Number, Of, Row, Schema, Sums, fits, has_number};
 use span_table_text::with_json_row;
 use std::alloc::{AllocError, Global};
 use std::mem::replace;
@@ -80,7 +80,7 @@ fn is_row_of(schema: &Schema, row: &Row) -> bool
 fn has_own(numbers: &[Number], sums: &Sums) -> bool
     ensures { IsTrue result ↔ sums.now ≡ only numbers.now sums.now }
 {
-    sums.equals(&sums.only(NumberSet::of(numbers)))
+    sums.equals(&sums.only(numbers))
 }
 
 // Whether a key of spans has one, and an asynchronous key a span or a point, as far as a table has these numbers.

@@ -152,7 +152,7 @@ fn add_row(
     ensures same { IfOk result (λ back. back ≡ row) }
 {
     let sums = row.sums;
-    let taken = sums.only(choice.set);
+    let taken = sums.only(choice.numbers);
     if takes_all(choice.places, row.key.values()) {
         let own = Row {
             key: row.key,

@@ -16,16 +16,7 @@ is_column-named (Argument (byte ∷ key)) name is some some_parent none =
 is_column-named (ParentArgument []) name is some some_parent none = absurd (some_parent refl)
 is_column-named (ParentArgument (byte ∷ key)) name is some some_parent none =
     ap₂ (λ a b. a && b) (lt-ltb 0 (length (byte ∷ key)) (omega arith)) (ap not (ap has_comma is ∙ none))
-is_column-named Pid name is some some_parent none = refl
-is_column-named Tid name is some some_parent none = refl
-is_column-named Process name is some some_parent none = refl
-is_column-named Thread name is some some_parent none = refl
-is_column-named Name name is some some_parent none = refl
-is_column-named File name is some some_parent none = refl
-is_column-named Cat name is some some_parent none = refl
-is_column-named Scope name is some some_parent none = refl
-is_column-named Id name is some some_parent none = refl
-is_column-named ParentName name is some some_parent none = refl
+is_column-named column name is some some_parent none = refl
 
 no-comma : (b : Bool) → not b ≡ true → b ≡ false
 no-comma true is = sym is
@@ -35,16 +26,7 @@ no-comma false is = refl
 pub has_comma-named : (column : Column) → is_column column ≡ true → has_comma (column_name column) ≡ false
 has_comma-named (Argument key) is = no-comma (list_any is_comma key) (and_parts (nat_lt 0 (length key)) (not (list_any is_comma key)) is).1
 has_comma-named (ParentArgument key) is = no-comma (list_any is_comma key) (and_parts (nat_lt 0 (length key)) (not (list_any is_comma key)) is).1
-has_comma-named Pid is = refl
-has_comma-named Tid is = refl
-has_comma-named Process is = refl
-has_comma-named Thread is = refl
-has_comma-named Name is = refl
-has_comma-named File is = refl
-has_comma-named Cat is = refl
-has_comma-named Scope is = refl
-has_comma-named Id is = refl
-has_comma-named ParentName is = refl
+has_comma-named column is = refl
 
 -- the column that is found for a name without a comma
 pub found-named : (name : Bytes) (result : Result (Option Column) AllocError) → has_comma name ≡ false → IfOk result (λ found. IfSome found (λ column. column_name column ≡ name))

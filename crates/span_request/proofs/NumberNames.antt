@@ -4,7 +4,7 @@ use Rattle.std.proofs.{Common.{Bor, ◌≡◌, ◌∙◌, ◌<◌, ◌+◌, ℕ,
 use Rattle.span_request.specs.{Bytes, Number, number_name, number_named, Numbers.AreCalled}
 use Rattle.span_request.proofs.ColumnNames.{take-next}
 use Rattle.span_table.specs.Numbers.{all_numbers}
-use Rattle.span_table.specs.declared.number.Number.TheVariants.{Closed, Count, Longest, Open, Outer, Points, SelfTime, Total}
+use Rattle.span_table.proofs.Numbers.{number-called}
 
 -- what is found passes
 find-passes : (p : Number → Bool) (numbers : List Number) (number : Number) → find p numbers ≡ Some number → p number ≡ true
@@ -20,17 +20,6 @@ called-named : (name : Bytes) (number : Number) → number_named name ≡ Some n
 called-named name number e =
     (bytes_eq-Decides (number_name number) name).0 (find-passes (λ n. bytes_eq (number_name n) name) all_numbers number e)
 
--- each number is found by its name
-named-called : (number : Number) → number_named (number_name number) ≡ Some number
-named-called SelfTime = refl
-named-called Total = refl
-named-called Count = refl
-named-called Longest = refl
-named-called Outer = refl
-named-called Closed = refl
-named-called Open = refl
-named-called Points = refl
-
 -- where each name is that of a number, one is found for the name at a place
 pub AreCalled-at : (names : List (Bor Bytes)) (numbers : List Number) (i : ℕ) (d : Bor Bytes) → i < length names → AreCalled (map (λ name. name.now) names) numbers
     → (number : Number) × (number_named (slice_index_or names i d).now ≡ Some number)
@@ -39,7 +28,7 @@ AreCalled-at (name ∷ names) [] i d low are =
     let none : 0 ≡ suc (length (map (λ other. other.now) names)) = ap length are in
     absurd (omega arith)
 AreCalled-at (name ∷ names) (number ∷ numbers) zero d low are =
-    (number, sym (ap (λ all. number_named (slice_index_or all 0 [])) are) ∙ named-called number)
+    (number, sym (ap (λ all. number_named (slice_index_or all 0 [])) are) ∙ number-called number)
 AreCalled-at (name ∷ names) (number ∷ numbers) (suc i) d low are = AreCalled-at names numbers i d (omega arith) (ap (drop 1) are)
 
 -- one more name, and one more number

@@ -2,7 +2,7 @@
 use Rattle.std.specs.{List.{All, list_all, list_any}, Prelude.{Option, Some, None}, Str.bytes_eq}
 use Rattle.std.proofs.Common.{◌≡◌, ◌≢◌, ◌∙◌, ◌<◌, ◌==◌, ◌&&◌, ◌||◌, ℕ, zero, suc, Bool, true, false, cond, List, [], ◌∷◌, get_or, length, map, refl, sym, ap, ap₂, subst, arith, true≢false}
 use Rattle.std.proofs.lemmas.{Bool.{and_parts, ne_eqb, or_parts}, List.{Sums.{AllPass-from_list_all, list_all-from_AllPass}}}
-use Rattle.span_table.proofs.Only.{AreAmong-self, are_same-same, has_number-among}
+use Rattle.span_table.proofs.Numbers.{AreAmong-self, AreAmong-trans, are_same-same, list_all-among}
 use Rattle.span_table_text.specs.AskedNumbers.{in_order, named_or, with_first}
 use Rattle.span_request.specs.{AreDistinct, AreNumbers, Async, AskedNumbers, Audience, Bytes, Number, Of, Options, People, Programs, Spans, all_of, has_number, number_name, shown_numbers, usual_numbers, Asked.Asked, Laws.{AddedTablesMayShowThem, TablesMayShowThem}, Lists.has_twice, Numbers.{AreNumbersGiven, are_numbers_of, by_of, goes_by, numbers_go_with}, Request.AreSound, Rules.{is_broken, unsuited}, Tasks.IsOptions}
 use Rattle.span_request.specs.declared.views.TableOptions.{TableOptions}
@@ -16,9 +16,7 @@ in_order-own audience of own = by (are_same own (usual_numbers Programs of)) ref
   where
     usual : (audience : Audience) (of : Of) → list_all (has_number (usual_numbers Programs of)) (usual_numbers audience of) ≡ true
     usual People Spans = refl
-    usual People Async = refl
-    usual Programs Spans = refl
-    usual Programs Async = refl
+    usual audience of = refl
 
     by : (b : Bool) → are_same own (usual_numbers Programs of) ≡ b → list_all (has_number own) (cond b (usual_numbers audience of) own) ≡ true
     by true e = subst (λ all. list_all (has_number all) (usual_numbers audience of) ≡ true) (sym (are_same-same own (usual_numbers Programs of) e)) (usual audience of)
@@ -82,7 +80,7 @@ with_first-among None numbers all are = are
 with_first-among (Some by) numbers all are = choose (has_number numbers by) refl
   where
     choose : (b : Bool) → has_number numbers by ≡ b → list_all (has_number all) (cond b numbers (by ∷ numbers)) ≡ has_number all by
-    choose true e = are ∙ sym (has_number-among numbers all by are e)
+    choose true e = are ∙ sym (list_all-among (has_number all) numbers by are e)
     choose false e = ap (λ b. has_number all by && b) are ∙ and-true (has_number all by)
       where
         and-true : (b : Bool) → (b && true) ≡ b
@@ -133,18 +131,12 @@ module _ (options : Options) (asked : Asked) (table : TableOptions) (sound : Are
 AreNumbers-among : (of : Of) (own shown : List Number) → AreNumbers of own → 0 < length shown → AreDistinct (map number_name shown) → list_all (has_number own) shown ≡ true → AreNumbers of shown
 AreNumbers-among of own shown are some distinct among = record {
   some = some;
-  each = AllPass-from_list_all (has_number (all_of of)) shown (later shown among);
+  each = AllPass-from_list_all (has_number (all_of of)) shown (AreAmong-trans shown own (all_of of) among own_among);
   distinct = distinct;
 }
   where
     own_among : AreAmong own (all_of of)
     own_among = list_all-from_AllPass (has_number (all_of of)) own are.each
-
-    later : (numbers : List Number) → list_all (has_number own) numbers ≡ true → list_all (has_number (all_of of)) numbers ≡ true
-    later [] e = refl
-    later (number ∷ numbers) e =
-        let both = and_parts (has_number own number) (list_all (has_number own) numbers) e in
-        ap₂ (λ a b. a && b) (has_number-among own (all_of of) number own_among both.0) (later numbers both.1)
 
 pub added-shown : AddedTablesMayShowThem
 added-shown options asked table of own sound is are goes =
@@ -193,6 +185,4 @@ tables-shown options asked table sound own is =
 
     in_order-all : (audience : Audience) (of : Of) → list_all (has_number (all_of of)) (in_order audience of (usual_numbers Programs of)) ≡ true
     in_order-all People Spans = refl
-    in_order-all People Async = refl
-    in_order-all Programs Spans = refl
-    in_order-all Programs Async = refl
+    in_order-all audience of = refl

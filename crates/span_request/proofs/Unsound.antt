@@ -1,7 +1,7 @@
 -- Options that break a rule.
 use Rattle.std.proofs.Common.{◌≡◌, ◌∙◌, ◌||◌, true, List, [], ◌∷◌, map, Option, Some, None, ap, ap₂, arith, length, refl, subst, suc, sym, true≢false}
 use Rattle.std.specs.Prelude.{drop, unwrap_or}
-use Rattle.span_table.proofs.Only.{number_name-same}
+use Rattle.span_table.proofs.Numbers.{number_name-same}
 use Rattle.span_table_text.proofs.Determined.{column_name-injective}
 use Rattle.span_request.specs.{Bytes, Column, Number, Of, Options, Spans, column_name, number_name, Asked.{Asked, IsAskedBy}, Columns.{AreAsked, AreGiven}, Numbers.{AreNumbersGiven, of_of}, Request.{AreUnsound}, Rules.{is_broken, unsuited, untested}}
 use Rattle.span_request.proofs.ConditionParts.{AreConditions-once}

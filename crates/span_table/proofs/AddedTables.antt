@@ -3,8 +3,8 @@ use Rattle.std.specs.{List.{cons_option, list_any, Sorted.IsPermutation}, Option
 use Rattle.std.proofs.{Common.{◌≡◌, ℕ, ◌+◌, ◌||◌, arith, List, [], ◌∷◌, ◌++◌, Option, Some, None, map, refl, sym, ap, ap₂, subst, ◌∙◌}, lemmas.{Grind.flat_map-append, List.{map-append, map-id, Sorted.{IsPermutation-map, list_any-IsPermutation, sum_by-IsPermutation}, Sums.{sum_by-append, sum_by-cons}}, Option.slice_get-map, Simd.map-map}}
 use Rattle.span_self_time.proofs.Mapped.{sum_by-map}
 use Rattle.span_keyed_tracks.proofs.{Keyed.has_key, SameKeys.step_keys}
-use Rattle.span_table.specs.{Thread, AsyncRow, Keyed, keys_in, steps_at, CountRow, accepted, async_rows, thread_keys, Timed, timed_spans, thread_events, closed_spans, parent_of, Adding.{AddingLosesNothing, AreAmong, Choice, DroppingAdds, OrderIsNothing, keyed_by, keyed_row, keyed_rows, picked, schema_by}, Columns.{async_value_at, value_at}, KeyLaws.{key_cmp_total, key_cmp-same}, Keys.{TableKey, key_cmp}, Numbers.set_of, Sums.{no_sums, with_sums}, Tables.{KeyedSums, Run, Schema, SpanTable, called, counts_of, counts_together, keyed_async, keyed_span, row_of, rows_of, run_sums, schema_sums, sums_of, sums_together, table_of, thread_sums, with_only}, declared.{number_set.NumberSet.NumberSet, column.Column.Column, counts.TableCounts.TableCounts, of.Of.{Of, TheVariants.{Spans, Async}}, sums.Sums.Sums, table.Row.Row}}
-use Rattle.span_table.proofs.{Alike.{AddUpAlike, AddUpAlike-append, AddUpAlike-flat_map, AddUpAlike-grouped, AddUpAlike-refl, has_key-append, summed-alike}, Only.{AddUpAlike-only, only-among}, Tallies.{above-max, made_of, nat-same, number-total, same_numbers, tally, tally-append, total, under}}
+use Rattle.span_table.specs.{Thread, AsyncRow, Keyed, keys_in, steps_at, CountRow, accepted, async_rows, thread_keys, Timed, timed_spans, thread_events, closed_spans, parent_of, Adding.{AddingLosesNothing, AreAmong, Choice, DroppingAdds, OrderIsNothing, keyed_by, keyed_row, keyed_rows, picked, schema_by}, Columns.{async_value_at, value_at}, KeyLaws.{key_cmp_total, key_cmp-same}, Keys.{TableKey, key_cmp}, Sums.{no_sums, number_by, with_sums}, Tables.{KeyedSums, Run, Schema, SpanTable, called, counts_of, counts_together, keyed_async, keyed_span, row_of, rows_of, run_sums, schema_sums, sums_of, sums_together, table_of, thread_sums, with_only}, declared.{column.Column.Column, counts.TableCounts.TableCounts, number.Number.{Number, TheVariants.Longest}, of.Of.{Of, TheVariants.{Spans, Async}}, sums.Sums.Sums, table.Row.Row}}
+use Rattle.span_table.proofs.{Alike.{AddUpAlike, AddUpAlike-append, AddUpAlike-flat_map, AddUpAlike-grouped, AddUpAlike-refl, has_key-append, summed-alike}, Only.{AddUpAlike-only, only-among}, Numbers.same_numbers, Tallies.{above-max, made_of, nat-same, number-total, tally, tally-append, total, under}}
 
 -- sums that add up alike give the same rows
 pub rows_of-alike : (es fs : KeyedSums) → AddUpAlike es fs → rows_of es ≡ rows_of fs
@@ -116,31 +116,28 @@ module _ (places : List ℕ) (columns : List Column) where
       ∙ (λ i. map (λ (row : AsyncRow). record { key = picked-map (async_value_at run row.key) columns places i; step = (keyed_async columns run row).step }) (async_rows run.journal))
 
 module _ (choice : Choice) (schema : Schema) (are : AreAmong choice.numbers schema.numbers) where
-  abbrev set : NumberSet
-  set = set_of choice.numbers
-
   abbrev sums_of_runs : List Run → KeyedSums
   sums_of_runs runs = flat_map (schema_sums schema) runs
 
   -- a run with what is chosen
-  run-chosen : (run : Run) → map (with_only set) (map (under (picked choice.places)) (schema_sums schema run)) ≡ schema_sums (schema_by choice schema) run
-  run-chosen run = each (run_sums schema.of schema.columns run) ∙ ap (map (with_only set)) (run_picked choice.places schema.columns schema.of run)
+  run-chosen : (run : Run) → map (with_only choice.numbers) (map (under (picked choice.places)) (schema_sums schema run)) ≡ schema_sums (schema_by choice schema) run
+  run-chosen run = each (run_sums schema.of schema.columns run) ∙ ap (map (with_only choice.numbers)) (run_picked choice.places schema.columns schema.of run)
     where
-      each : (es : KeyedSums) → map (with_only set) (map (under (picked choice.places)) (map (with_only (set_of schema.numbers)) es)) ≡ map (with_only set) (map (under (picked choice.places)) es)
+      each : (es : KeyedSums) → map (with_only choice.numbers) (map (under (picked choice.places)) (map (with_only schema.numbers) es)) ≡ map (with_only choice.numbers) (map (under (picked choice.places)) es)
       each [] = refl
       each (e ∷ es) = ap₂ (λ (s : Sums) (l : KeyedSums). record { key = picked choice.places e.key; step = s } ∷ l) (only-among choice.numbers schema.numbers e.step are) (each es)
 
-  runs-chosen : (runs : List Run) → map (with_only set) (map (under (picked choice.places)) (sums_of_runs runs)) ≡ flat_map (schema_sums (schema_by choice schema)) runs
+  runs-chosen : (runs : List Run) → map (with_only choice.numbers) (map (under (picked choice.places)) (sums_of_runs runs)) ≡ flat_map (schema_sums (schema_by choice schema)) runs
   runs-chosen runs =
-      ap (map (with_only set)) (map-flat_map (under (picked choice.places)) (schema_sums schema) runs)
-      ∙ map-flat_map (with_only set) (λ run. map (under (picked choice.places)) (schema_sums schema run)) runs ∙ (λ i. flat_map (λ run. run-chosen run i) runs)
+      ap (map (with_only choice.numbers)) (map-flat_map (under (picked choice.places)) (schema_sums schema) runs)
+      ∙ map-flat_map (with_only choice.numbers) (λ run. map (under (picked choice.places)) (schema_sums schema run)) runs ∙ (λ i. flat_map (λ run. run-chosen run i) runs)
 
   rows-chosen : (runs : List Run) → rows_of (map (keyed_by choice) (rows_of (sums_of_runs runs))) ≡ rows_of (flat_map (schema_sums (schema_by choice schema)) runs)
   rows-chosen runs =
       let es = sums_of_runs runs in
       let g = picked choice.places in
-      ap rows_of (sym (map-map (with_only set) (λ (row : Row). record { key = g row.key; step = row.sums }) (rows_of es)) ∙ ap (map (with_only set)) (rows-regrouped g es))
-      ∙ rows_of-alike (map (with_only set) (regrouped g es)) (map (with_only set) (map (under g) es)) (AddUpAlike-only set (regrouped g es) (map (under g) es) (AddUpAlike-grouped key_cmp_total key_cmp-same g es))
+      ap rows_of (sym (map-map (with_only choice.numbers) (λ (row : Row). record { key = g row.key; step = row.sums }) (rows_of es)) ∙ ap (map (with_only choice.numbers)) (rows-regrouped g es))
+      ∙ rows_of-alike (map (with_only choice.numbers) (regrouped g es)) (map (with_only choice.numbers) (map (under g) es)) (AddUpAlike-only choice.numbers (regrouped g es) (map (under g) es) (AddUpAlike-grouped key_cmp_total key_cmp-same g es))
       ∙ ap rows_of (runs-chosen runs)
 
 -- a table by fewer columns and numbers is the table by more, with the others dropped
@@ -149,10 +146,7 @@ table_of-chosen choice schema runs are = λ i. record { schema = schema_by choic
 
 -- what lists of sums come to is the same in whatever order these come
 total-moved : {A : Type 0} (f : A → Sums) (xs ys : List A) → IsPermutation xs ys → total f xs ≡ total f ys
-total-moved {A = A} f xs ys moved = same_numbers (total f xs) (total f ys)
-    (number (λ s. s.count) (λ a b. refl) refl) (number (λ s. s.total) (λ a b. refl) refl) (number (λ s. s.self_time) (λ a b. refl) refl)
-    (longest-same (λ n. longest-above n xs ∙ list_any-IsPermutation (λ x. nat_lt n (f x).longest) xs ys moved ∙ sym (longest-above n ys)))
-    (number (λ s. s.outer) (λ a b. refl) refl) (number (λ s. s.unclosed) (λ a b. refl) refl) (number (λ s. s.points) (λ a b. refl) refl)
+total-moved {A = A} f xs ys moved = same_numbers (total f xs) (total f ys) each
   where
     number : (n : Sums → ℕ) → ((a b : Sums) → n (with_sums a b) ≡ n a + n b) → n no_sums ≡ 0 → n (total f xs) ≡ n (total f ys)
     number n adds none = number-total n adds none f xs ∙ sym (sum_by-IsPermutation (λ x. n (f x)) xs ys moved) ∙ sym (number-total n adds none f ys)
@@ -163,6 +157,10 @@ total-moved {A = A} f xs ys moved = same_numbers (total f xs) (total f ys)
 
     longest-same : ((n : ℕ) → nat_lt n (total f xs).longest ≡ nat_lt n (total f ys).longest) → (total f xs).longest ≡ (total f ys).longest
     longest-same same = nat-same (total f xs).longest (total f ys).longest same
+
+    each : (n : Number) → number_by n (total f xs) ≡ number_by n (total f ys)
+    each Longest = longest-same (λ n. longest-above n xs ∙ list_any-IsPermutation (λ x. nat_lt n (f x).longest) xs ys moved ∙ sym (longest-above n ys))
+    each n = number (number_by n) (λ a b. refl) refl
 
 -- what adds up over some is the same in whatever order they come
 module _ {A : Type 0} (F : A → KeyedSums) where

@@ -92,9 +92,7 @@ module _ {K : Type 0} {cmp : K → K → Ordering} (o : IsTotalOrder cmp) (same 
     where
       mixed : (a b r : Bool) → (b || (a || r)) ≡ ((a || b) || r)
       mixed true true r = refl
-      mixed true false r = refl
-      mixed false true r = refl
-      mixed false false r = refl
+      mixed a b r = refl
 
   pub has_key-ascending : (k : K) (ks : List K) → has_key cmp k (ascending cmp ks) ≡ has_key cmp k ks
   has_key-ascending k ks = has_key-fold k [] ks ∙ or_nothing (has_key cmp k ks)

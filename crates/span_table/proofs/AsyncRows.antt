@@ -5,7 +5,7 @@ use Rattle.std.proofs.{Common.{◌≡◌, ℕ, ◌+◌, Bool, false, cond, List,
 use Rattle.span_self_time.proofs.Mapped.{sum_by-map}
 use Rattle.span_keyed_tracks.proofs.{InKeyOrder.AreApart-distinct, Keyed.{has_key, neither}, SameKeys.step_keys, Sorting.ascending-permutation, Uses.{AreApart, is_eq-turned}}
 use Rattle.span_journal.proofs.Sorted.{map-map}
-use Rattle.span_table.specs.{AsyncRow, Keyed, ascending, entry_of, steps_at, async_rows, KeyLaws.{key_cmp_total, key_cmp-same}, Keys.{TableKey, key_cmp}, Laws.{RowsAddUpToAsync, RowsAreAsyncRows, async_columns, of_async_row}, Numbers.{only_in, set_of, usual_numbers}, Sums.{no_sums, with_sums}, Tables.{KeyedSums, async_sums, keyed_async, row_of, rows_of, sums_of_async, sums_together, table_of, usual_schema, with_only}, declared.{audience.Audience.TheVariants.Programs, number_set.NumberSet.NumberSet, of.Of.TheVariants.Async, sums.Sums.Sums, table.Row.Row}}
+use Rattle.span_table.specs.{AsyncRow, Keyed, ascending, entry_of, steps_at, async_rows, KeyLaws.{key_cmp_total, key_cmp-same}, Keys.{TableKey, key_cmp}, Laws.{RowsAddUpToAsync, RowsAreAsyncRows, async_columns, of_async_row}, Numbers.usual_numbers, Sums.{no_sums, only, sums_of_async, with_sums}, Tables.{KeyedSums, async_sums, keyed_async, row_of, rows_of, sums_together, table_of, usual_schema, with_only}, declared.{audience.Audience.TheVariants.Programs, number.Number.Number, of.Of.TheVariants.Async, sums.Sums.Sums, table.Row.Row}}
 use Rattle.span_table.proofs.{AddedTables.{rows-regrouped}, Alike.AddUpAlike-grouped, Tallies.{number-total, sums_together-one}}
 
 abbrev Entry : Type 0
@@ -61,11 +61,11 @@ module _ (es : KeyedSums) where
 pub rows-are_async_rows : RowsAreAsyncRows
 rows-are_async_rows run distinguished =
     let rows = async_rows run.journal in
-    let set = set_of (usual_numbers Programs Async) in
+    let numbers = usual_numbers Programs Async in
     let make : AsyncRow → Entry = λ row. record { key = (of_async_row row).key; step = sums_of_async row 0 } in
     let sums = map make rows in
     let distinct = subst (IsDistinct (eq_by_cmp key_cmp)) (sym (map-map (λ (e : Entry). e.key) make rows)) distinguished in
-    subst (IsPermutation (map of_async_row rows)) (ap rows_of (sym (append-nil (map (with_only set) (async_sums async_columns run)) ∙ map-map (with_only set) (keyed_async async_columns run) rows)))
+    subst (IsPermutation (map of_async_row rows)) (ap rows_of (sym (append-nil (map (with_only numbers) (async_sums async_columns run)) ∙ map-map (with_only numbers) (keyed_async async_columns run) rows)))
     (subst (λ l. IsPermutation l (rows_of sums)) (map-map (own sums) make rows) (rows_of-distinct sums distinct))
 
 -- under the key of no columns stand all
@@ -93,12 +93,12 @@ rows-add_up columns run = record {
   points = number (λ (s : Sums). s.points) (λ a b. refl) refl (λ s. refl);
 }
   where
-    set : NumberSet
-    set = set_of (usual_numbers Programs Async)
+    numbers : List Number
+    numbers = usual_numbers Programs Async
 
-    number : (n : Sums → ℕ) → ((a b : Sums) → n (with_sums a b) ≡ n a + n b) → n no_sums ≡ 0 → ((s : Sums) → n (only_in set s) ≡ n s) →
+    number : (n : Sums → ℕ) → ((a b : Sums) → n (with_sums a b) ≡ n a + n b) → n no_sums ≡ 0 → ((s : Sums) → n (only numbers s) ≡ n s) →
         sum_by (λ (row : Row). n row.sums) (table_of (usual_schema Async columns) (run ∷ [])).rows ≡ sum_by (λ (row : AsyncRow). n (sums_of_async row 0)) (async_rows run.journal)
     number n adds none kept =
-        let sums = map (with_only set) (async_sums columns run) in
-        rows-total n adds none (sums ++ []) ∙ ap (sum_by (λ (e : Entry). n e.step)) (append-nil sums ∙ map-map (with_only set) (keyed_async columns run) (async_rows run.journal))
-        ∙ sum_by-map (λ (e : Entry). n e.step) (λ row. with_only set (keyed_async columns run row)) (async_rows run.journal)
+        let sums = map (with_only numbers) (async_sums columns run) in
+        rows-total n adds none (sums ++ []) ∙ ap (sum_by (λ (e : Entry). n e.step)) (append-nil sums ∙ map-map (with_only numbers) (keyed_async columns run) (async_rows run.journal))
+        ∙ sum_by-map (λ (e : Entry). n e.step) (λ row. with_only numbers (keyed_async columns run row)) (async_rows run.journal)

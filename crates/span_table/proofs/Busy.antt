@@ -1,23 +1,20 @@
 -- The self times of a thread's rows add up to its busy time.
-use Rattle.std.specs.{List.{AllByRecursion, Sorted.IsStrictlySortedBy}, Ordering.{int_cmp, is_eq, ordering_then}, Prelude.{filter, filter_map, flat_map, sum_by}, declared.cmp.Ordering.{Ordering, TheVariants.{Less, Equal, Greater}}}
+use Rattle.std.specs.{List.{AllByRecursion, Sorted.IsStrictlySortedBy}, Ordering.{int_cmp, is_eq, ordering_then}, Prelude.{filter, filter_map, flat_map, sum_by}, declared.cmp.Ordering.{Ordering, TheVariants.{Less, Equal}}}
 use Rattle.std.proofs.{Common.{◌≡◌, Bool, true, false, ◌||◌, cond, List, [], ◌∷◌, ◌++◌, map, take, refl, sym, ap, ap₂, subst, ◌∙◌}, lemmas.List.{append-nil, Elements.filter-append}}
 use Rattle.span_event.proofs.Orders.{thread_cmp-same, thread_cmp-total}
 use Rattle.span_self_time.proofs.{Mapped.{filter-map, sum_by-map}, SelfTimes.sum_by-self_time}
 use Rattle.span_keyed_tracks.proofs.{Keyed.{has_key, neither, same_from_is_eq}, Sorted.ascending-sorted, Uses.is_eq-turned}
 use Rattle.span_journal.proofs.LegalSpans.{legal-spans}
-use Rattle.span_table.specs.{Thread, thread_cmp, Bytes, steps_at, SpanRow, accepted, span_row, span_rows, thread_keys, thread_span_rows, Timed, timed_in, timed_spans, listed_by, thread_events, AreSpans, Span, busy_time, closed_spans, Collected.{keyed_span_row, plain_sums, sums_of_row}, Columns.Run, Keys.key_cmp, Laws.{AddUpToBusy, RowsAddUpToBusy, of_span_row, rows_of_thread, thread_key}, Tables.{keyed_span, sums_of, sums_together}, declared.{sums.Sums.Sums, table.Row.Row}}
-use Rattle.span_table.proofs.{ByName.{thread-alike, without_outer}, OwnRows.rows-are_span_rows, Tallies.number-total, Unlisted.closed_spans-unlisted}
+use Rattle.span_table.specs.{Thread, thread_cmp, Bytes, steps_at, SpanRow, accepted, span_row, span_rows, thread_keys, thread_span_rows, Timed, timed_in, timed_spans, listed_by, thread_events, AreSpans, Span, busy_time, closed_spans, Collected.keyed_span_row, Columns.Run, Keys.key_cmp, Laws.{AddUpToBusy, RowsAddUpToBusy, of_span_row, rows_of_thread, thread_key}, Sums.{only, sums_of_row}, Tables.{keyed_span, sums_of, sums_together}, declared.{sums.Sums.Sums, table.Row.Row}}
+use Rattle.span_table.proofs.{ByName.{thread-alike, without_outer}, Only.plain_numbers, OwnRows.rows-are_span_rows, Tallies.number-total, Unlisted.closed_spans-unlisted}
 
 -- the keys of threads are in the order of these
 key_cmp-thread_cmp : (a b : Thread) → key_cmp (thread_key a) (thread_key b) ≡ thread_cmp a b
 key_cmp-thread_cmp a b = by (int_cmp a.pid b.pid) (int_cmp a.tid b.tid)
   where
     by : (x y : Ordering) → ordering_then (ordering_then x Equal) (ordering_then (ordering_then y Equal) Equal) ≡ ordering_then x y
-    by Less y = refl
-    by Greater y = refl
     by Equal Less = refl
-    by Equal Equal = refl
-    by Equal Greater = refl
+    by x y = refl
 
 module _ (run : Run) (thread : Thread) where
   abbrev rows_of : Thread → List SpanRow
@@ -74,16 +71,16 @@ module _ (run : Run) (thread : Thread) where
   steps-rows [] = refl
   steps-rows (row ∷ rows) = ap (λ l. sums_of_row row ∷ l) (steps-rows rows)
 
-  steps-spans : (spans : List (Span Bytes)) (timed : List Timed) → steps_at key_cmp [] (map without_outer (map (keyed_span [] run thread spans) timed)) ≡ map (λ t. plain_sums (sums_of spans t)) timed
+  steps-spans : (spans : List (Span Bytes)) (timed : List Timed) → steps_at key_cmp [] (map without_outer (map (keyed_span [] run thread spans) timed)) ≡ map (λ t. only plain_numbers (sums_of spans t)) timed
   steps-spans spans [] = refl
-  steps-spans spans (t ∷ timed) = ap (λ l. plain_sums (sums_of spans t) ∷ l) (steps-spans spans timed)
+  steps-spans spans (t ∷ timed) = ap (λ l. only plain_numbers (sums_of spans t) ∷ l) (steps-spans spans timed)
 
   -- the self times of a thread's rows are those of its spans
   self_times-rows : AreSpans (closed_spans (thread_events thread run.journal)) → sum_by (λ (row : SpanRow). row.self_time) (rows_of thread) ≡ busy_time (closed_spans (thread_events thread run.journal))
   self_times-rows are =
       let spans = closed_spans (thread_events thread run.journal) in
       let self_of = λ (s : Sums). s.self_time in
-      let plain = λ (t : Timed). plain_sums (sums_of spans t) in
+      let plain = λ (t : Timed). only plain_numbers (sums_of spans t) in
       sym (ap (λ l. (sums_together l).self_time) (steps-rows (rows_of thread)) ∙ number-total self_of (λ a b. refl) refl sums_of_row (rows_of thread))
       ∙ ap self_of ((thread-alike [] run refl thread).sums [])
       ∙ ap (λ l. (sums_together l).self_time) (steps-spans spans (timed_spans run.journal thread)) ∙ number-total self_of (λ a b. refl) refl plain (timed_spans run.journal thread)

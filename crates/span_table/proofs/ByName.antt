@@ -3,23 +3,15 @@ use Rattle.std.specs.{Cmp.Lexicographic.{nat_list_cmp_total, texts_ties}, List.l
 use Rattle.std.proofs.{Common.{◌≡◌, ℕ, ◌+◌, Bool, true, false, ◌||◌, cond, List, [], ◌∷◌, ◌++◌, length, map, Option, None, refl, sym, ap, ap₂, subst, ◌∙◌, arith}, lemmas.List.{map-append, Sums.sum_by-cons}}
 use Rattle.span_event.proofs.Orders.{text_same}
 use Rattle.span_journal.proofs.Sorted.{map-map}
-use Rattle.span_table.specs.{Thread, Bytes, same_text, text_cmp, Keyed, ascending, keys_in, steps_at, accepted, span_row, thread_keys, thread_span_rows, timed_in, thread_events, Span, named, closed_spans, parent_of, Collected.{asks_spans, keyed_span_row, named_alone, plain_sums, row_sums, sums_of_row}, Columns.{Called, Run, Value, value_at}, Keys.TableKey, Sums.{no_sums, with_sums}, Tables.{KeyedSums, called, keyed_span, span_sums, sums_of, sums_together, thread_sums, with_only}, declared.{number_set.NumberSet.NumberSet, column.Column.{Column, TheVariants.{Pid, Tid, Process, Thread as OfThread, Name, File, Cat, Scope, Id, Argument, ParentName, ParentArgument}}, sums.Sums.Sums}}
-use Rattle.span_table.proofs.{Alike.{AddUpAlike, AddUpAlike-flat_map, AddUpAlike-grouped}, Only.{AddUpAlike-only, only_in-plain}, Tallies.{made_of, number-total, same_numbers, under}}
+use Rattle.span_table.specs.{Thread, Bytes, same_text, text_cmp, Keyed, ascending, keys_in, steps_at, accepted, span_row, thread_keys, thread_span_rows, timed_in, thread_events, Span, named, closed_spans, parent_of, Collected.{asks_spans, keyed_span_row, named_alone, row_sums}, Columns.{Called, Run, Value, value_at}, Keys.TableKey, Numbers.asks_each, Sums.{no_sums, number_by, only, sums_of_row, with_sums}, Tables.{KeyedSums, called, keyed_span, span_sums, sums_of, sums_together, thread_sums, with_only}, declared.{number.Number.{Number, TheVariants.{SelfTime, Total, Count, Longest, Closed}}, column.Column.{Column, TheVariants.{Argument, ParentName, ParentArgument}}, sums.Sums.Sums}}
+use Rattle.span_table.proofs.{Alike.{AddUpAlike, AddUpAlike-flat_map, AddUpAlike-grouped}, Only.{AddUpAlike-only, only-plain, plain_numbers}, Numbers.same_numbers, Tallies.{made_of, number-total, under}}
 
 -- a column that asks a span for no more than its name has the value that one has of which nothing else is known
 value_at-named_alone : (run : Run) (thread : Thread) (span : Called) (parent : Option Called) (column : Column) → asks_spans column ≡ false → value_at run thread span parent column ≡ value_at run thread (named_alone span.name) None column
-value_at-named_alone run thread span parent Pid h = refl
-value_at-named_alone run thread span parent Tid h = refl
-value_at-named_alone run thread span parent Process h = refl
-value_at-named_alone run thread span parent OfThread h = refl
-value_at-named_alone run thread span parent Name h = refl
-value_at-named_alone run thread span parent File h = refl
-value_at-named_alone run thread span parent Cat h = refl
-value_at-named_alone run thread span parent Scope h = refl
-value_at-named_alone run thread span parent Id h = refl
 value_at-named_alone run thread span parent (Argument key) h = cc
 value_at-named_alone run thread span parent ParentName h = cc
 value_at-named_alone run thread span parent (ParentArgument key) h = cc
+value_at-named_alone run thread span parent column h = refl
 
 key-named_alone : (run : Run) (thread : Thread) (span : Called) (parent : Option Called) (columns : List Column) → list_any asks_spans columns ≡ false → map (value_at run thread span parent) columns ≡ map (value_at run thread (named_alone span.name) None) columns
 key-named_alone run thread span parent [] h = refl
@@ -42,7 +34,7 @@ sum_by-one (x ∷ xs) = omega (arith, sum_by-cons (λ x. 1) x xs, sum_by-one xs)
 module _ (spans : List (Span Bytes)) where
   -- the numbers of a span of these without those that only spans tell
   abbrev plain_of : Span Bytes → Sums
-  plain_of s = plain_sums (sums_of spans (timed_in spans s))
+  plain_of s = only plain_numbers (sums_of spans (timed_in spans s))
 
   -- a span of these under its name
   abbrev of_span : Span Bytes → Keyed Bytes Sums
@@ -62,12 +54,7 @@ module _ (spans : List (Span Bytes)) where
 
   -- the row of a name has the sums of its spans
   row-sums : (thread : Thread) (name : Bytes) → sums_of_row (span_row thread spans name) ≡ sums_together (steps_at text_cmp name (map of_span spans))
-  row-sums thread name =
-      let mine = named same_text name spans in
-      same_numbers (sums_of_row (span_row thread spans name)) (sums_together (steps_at text_cmp name (map of_span spans)))
-      (sym (sum_by-one mine) ∙ number (λ s. s.count) (λ a b. refl) refl) (number (λ s. s.total) (λ a b. refl) refl) (number (λ s. s.self_time) (λ a b. refl) refl)
-      (sym (ap (λ l. (sums_together l).longest) (steps-named name spans) ∙ no_longest mine)) (sym (sum_by-none mine) ∙ number (λ s. s.outer) (λ a b. refl) refl)
-      (sym (sum_by-none mine) ∙ number (λ s. s.unclosed) (λ a b. refl) refl) (sym (sum_by-none mine) ∙ number (λ s. s.points) (λ a b. refl) refl)
+  row-sums thread name = same_numbers (sums_of_row (span_row thread spans name)) (sums_together (steps_at text_cmp name (map of_span spans))) each
     where
       number : (n : Sums → ℕ) → ((a b : Sums) → n (with_sums a b) ≡ n a + n b) → n no_sums ≡ 0 → sum_by (λ s. n (plain_of s)) (named same_text name spans) ≡ n (sums_together (steps_at text_cmp name (map of_span spans)))
       number n adds none = sym (ap (λ l. n (sums_together l)) (steps-named name spans) ∙ number-total n adds none plain_of (named same_text name spans))
@@ -76,9 +63,17 @@ module _ (spans : List (Span Bytes)) where
       no_longest [] = refl
       no_longest (x ∷ xs) = omega (arith, no_longest xs)
 
+      each : (n : Number) → number_by n (sums_of_row (span_row thread spans name)) ≡ number_by n (sums_together (steps_at text_cmp name (map of_span spans)))
+      each Count = sym (sum_by-one (named same_text name spans)) ∙ number (number_by Count) (λ a b. refl) refl
+      each Closed = sym (sum_by-one (named same_text name spans)) ∙ number (number_by Closed) (λ a b. refl) refl
+      each Total = number (number_by Total) (λ a b. refl) refl
+      each SelfTime = number (number_by SelfTime) (λ a b. refl) refl
+      each Longest = sym (ap (λ l. (sums_together l).longest) (steps-named name spans) ∙ no_longest (named same_text name spans))
+      each n = sym (sum_by-none (named same_text name spans)) ∙ number (number_by n) (λ a b. refl) refl
+
 -- without the numbers that only spans tell
 abbrev pub without_outer : Keyed TableKey Sums → Keyed TableKey Sums
-without_outer e = record { key = e.key; step = plain_sums e.step }
+without_outer e = record { key = e.key; step = only plain_numbers e.step }
 
 module _ (columns : List Column) (run : Run) (asks_none : list_any asks_spans columns ≡ false) where
   module _ (thread : Thread) where
@@ -129,11 +124,11 @@ module _ (columns : List Column) (run : Run) (asks_none : list_any asks_spans co
       (subst (λ (es : KeyedSums). AddUpAlike es (flat_map (λ thread. map without_outer (thread_sums columns run thread)) threads)) (sym (rows-by_thread threads))
       (AddUpAlike-flat_map (λ thread. map (keyed_span_row columns run) (thread_span_rows run.journal thread)) (λ thread. map without_outer (thread_sums columns run thread)) thread-alike threads))
 
-  -- so they do with the numbers of a set that has none of these
-  pub row_sums-only : (set : NumberSet) → set.longest ≡ false → set.outer ≡ false → AddUpAlike (map (with_only set) (row_sums columns run)) (map (with_only set) (span_sums columns run))
-  row_sums-only set longest outer =
-      subst (AddUpAlike (map (with_only set) (row_sums columns run))) (each (span_sums columns run)) (AddUpAlike-only set (row_sums columns run) (map without_outer (span_sums columns run)) row_sums-alike)
+  -- so they do with numbers alone that have none of these
+  pub row_sums-only : (numbers : List Number) → list_any asks_each numbers ≡ false → AddUpAlike (map (with_only numbers) (row_sums columns run)) (map (with_only numbers) (span_sums columns run))
+  row_sums-only numbers none =
+      subst (AddUpAlike (map (with_only numbers) (row_sums columns run))) (each (span_sums columns run)) (AddUpAlike-only numbers (row_sums columns run) (map without_outer (span_sums columns run)) row_sums-alike)
     where
-      each : (es : KeyedSums) → map (with_only set) (map without_outer es) ≡ map (with_only set) es
+      each : (es : KeyedSums) → map (with_only numbers) (map without_outer es) ≡ map (with_only numbers) es
       each [] = refl
-      each (e ∷ es) = ap₂ (λ (s : Sums) (l : KeyedSums). record { key = e.key; step = s } ∷ l) (sym (only_in-plain set e.step longest outer)) (each es)
+      each (e ∷ es) = ap₂ (λ (s : Sums) (l : KeyedSums). record { key = e.key; step = s } ∷ l) (only-plain numbers e.step none) (each es)

@@ -7,6 +7,7 @@ pub mod Kept
 pub mod KeyPlaces
 pub mod MergedRows
 pub mod Mixed
+pub mod Numbers
 pub mod Only
 pub mod OwnRows
 pub mod Parents

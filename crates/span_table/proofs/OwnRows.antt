@@ -1,9 +1,9 @@
 -- Rows that rise are the rows of their own sums; so by process, thread and name a table has the rows of spans.
-use Rattle.std.specs.{BTreeSet.insert_key, Cmp.IsTotalOrder, List.{AllByRecursion, Sorted.IsStrictlySortedBy}, Ordering.{match_ordering, ordering_reverse, ordering_then, int_cmp}, Prelude.fold, declared.cmp.Ordering.{Ordering, TheVariants.{Less, Equal, Greater}}}
+use Rattle.std.specs.{BTreeSet.insert_key, Cmp.IsTotalOrder, List.{AllByRecursion, Sorted.IsStrictlySortedBy}, Ordering.{match_ordering, ordering_reverse, ordering_then, int_cmp}, Prelude.fold, declared.cmp.Ordering.{Ordering, TheVariants.{Less, Equal}}}
 use Rattle.std.proofs.{Common.{◌≡◌, List, [], ◌∷◌, ◌++◌, get_or, map, refl, sym, ap, ap₂, subst, ◌∙◌, append_assoc}, lemmas.List.{append-nil, get_or_default, Elements.recursion_from_All}}
 use Rattle.span_journal.proofs.Sorted.{map-map}
 use Rattle.span_ledger.proofs.RowOrder.{span_rows-sorted}
-use Rattle.span_table.specs.{text_cmp, ascending, entry_of, SpanRow, span_order, span_rows, Adding.{keyed_row, keyed_rows}, KeyLaws.key_cmp_total, Keys.key_cmp, Laws.{RowsAreSpanRows, of_span_row, row_columns}, RowSearch.sums_at, Collected.{keyed_span_row, row_sums}, Numbers.{set_of, usual_numbers}, Tables.{RowsRise, row_of, rows_of, span_sums, with_only}, declared.{audience.Audience.TheVariants.Programs, of.Of.TheVariants.Spans, table.Row.Row}}
+use Rattle.span_table.specs.{text_cmp, ascending, entry_of, SpanRow, span_order, span_rows, Adding.{keyed_row, keyed_rows}, KeyLaws.key_cmp_total, Keys.key_cmp, Laws.{RowsAreSpanRows, of_span_row, row_columns}, RowSearch.sums_at, Collected.{keyed_span_row, row_sums}, Numbers.usual_numbers, Tables.{RowsRise, row_of, rows_of, span_sums, with_only}, declared.{audience.Audience.TheVariants.Programs, of.Of.TheVariants.Spans, table.Row.Row}}
 use Rattle.span_table.proofs.{Alike.summed-alike, ByName.row_sums-only, Searched.sums_at-own}
 
 module _ {K : Type 0} {R : K → K → Ordering} (o : IsTotalOrder R) where
@@ -53,13 +53,8 @@ key_cmp-span_order : (a b : SpanRow) → key_cmp (of_span_row a).key (of_span_ro
 key_cmp-span_order a b = by (int_cmp a.pid b.pid) (int_cmp a.tid b.tid) (text_cmp a.name b.name)
   where
     by : (x y z : Ordering) → ordering_then (ordering_then x Equal) (ordering_then (ordering_then y Equal) (ordering_then z Equal)) ≡ ordering_then (ordering_then x y) z
-    by Less y z = refl
-    by Greater y z = refl
-    by Equal Less z = refl
-    by Equal Greater z = refl
     by Equal Equal Less = refl
-    by Equal Equal Equal = refl
-    by Equal Equal Greater = refl
+    by x y z = refl
 
 span_rows-rise : (rows : List SpanRow) → IsStrictlySortedBy span_order rows → RowsRise (map of_span_row rows)
 unfolding IsStrictlySortedBy
@@ -74,8 +69,8 @@ span_rows-rise (row ∷ rows) sorted = (below rows sorted.0, span_rows-rise rows
 pub rows-are_span_rows : RowsAreSpanRows
 rows-are_span_rows run =
     let rows = map of_span_row (span_rows run.journal) in
-    let set = set_of (usual_numbers Programs Spans) in
-    ap rows_of (append-nil (map (with_only set) (span_sums row_columns run)))
-    ∙ ap (map row_of) (sym (summed-alike (map (with_only set) (row_sums row_columns run)) (map (with_only set) (span_sums row_columns run)) (row_sums-only row_columns run refl set refl refl)))
-    ∙ ap rows_of (map-map (with_only set) (keyed_span_row row_columns run) (span_rows run.journal) ∙ sym (map-map keyed_row of_span_row (span_rows run.journal)))
+    let numbers = usual_numbers Programs Spans in
+    ap rows_of (append-nil (map (with_only numbers) (span_sums row_columns run)))
+    ∙ ap (map row_of) (sym (summed-alike (map (with_only numbers) (row_sums row_columns run)) (map (with_only numbers) (span_sums row_columns run)) (row_sums-only row_columns run refl numbers refl)))
+    ∙ ap rows_of (map-map (with_only numbers) (keyed_span_row row_columns run) (span_rows run.journal) ∙ sym (map-map keyed_row of_span_row (span_rows run.journal)))
     ∙ rows_of-own rows (span_rows-rise (span_rows run.journal) (span_rows-sorted run.journal))

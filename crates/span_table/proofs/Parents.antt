@@ -2,8 +2,8 @@
 use Rattle.std.specs.{List.list_any, Option.{option_and_then, option_map}, Prelude.{filter, not, slice_get, unwrap_or}}
 use Rattle.std.proofs.{Common.{◌≡◌, ℕ, Bool, true, false, ◌&&◌, ◌||◌, cond, int_le, List, [], ◌∷◌, map, Option, Some, None, refl, sym, ap, ap₂, ◌∙◌}, lemmas.{Bool.or_parts, Option.slice_get-map, Simd.map-map, List.map-id}}
 use Rattle.span_self_time.proofs.Mapped.{filter-map}
-use Rattle.span_table.specs.{Bytes, Thread, Span, Timed, timed_in, length_of, is_child, is_outer, named, outranks, same_text, higher, highest, holders, parent_of, spans_of, Collected.{KnowOuter, KnowParents, outer_at, place_at, span_at}, Columns.{Called, Run, Value, is_of_parent, value_at}, Numbers.only_in, Tables.{called, span_key, sums_of, sums_of_span}, declared.{column.Column.{Column, TheVariants.{Pid, Tid, Process, Thread as OfThread, Name, File, Cat, Scope, Id, Argument, ParentName, ParentArgument}}, number_set.NumberSet.NumberSet}}
-use Rattle.span_table.proofs.Tallies.{same_numbers}
+use Rattle.span_table.specs.{Bytes, Thread, Span, Timed, timed_in, length_of, is_child, is_outer, named, outranks, same_text, higher, highest, holders, parent_of, spans_of, Collected.{KnowOuter, KnowParents, outer_at, place_at, span_at}, Columns.{Called, Run, Value, is_of_parent, value_at}, Numbers.has_number, Sums.{number_by, only, sums_of_span}, Tables.{called, span_key, sums_of}, declared.{column.Column.{Column, TheVariants.{ParentName, ParentArgument}}, number.Number.{Number, TheVariants.Outer}}}
+use Rattle.span_table.proofs.Numbers.{only-same}
 
 pub option_map-map : {A B C : Type 0} (f : B → C) (g : A → B) (o : Option A) → option_map f (option_map g o) ≡ option_map (λ x. f (g x)) o
 option_map-map f g None = refl
@@ -48,18 +48,9 @@ spans_of-timed spans xs = map-map (λ (t : Timed). t.span) (timed_in spans) xs �
 
 -- a column that isn't the parent's has the same value whatever the parent is
 value_at-no_parent : (run : Run) (thread : Thread) (span : Called) (p q : Option Called) (column : Column) → is_of_parent column ≡ false → value_at run thread span p column ≡ value_at run thread span q column
-value_at-no_parent run thread span p q Pid h = refl
-value_at-no_parent run thread span p q Tid h = refl
-value_at-no_parent run thread span p q Process h = refl
-value_at-no_parent run thread span p q OfThread h = refl
-value_at-no_parent run thread span p q Name h = refl
-value_at-no_parent run thread span p q File h = refl
-value_at-no_parent run thread span p q Cat h = refl
-value_at-no_parent run thread span p q Scope h = refl
-value_at-no_parent run thread span p q Id h = refl
-value_at-no_parent run thread span p q (Argument key) h = refl
 value_at-no_parent run thread span p q ParentName h = cc
 value_at-no_parent run thread span p q (ParentArgument key) h = cc
+value_at-no_parent run thread span p q column h = refl
 
 key-no_parent : (run : Run) (thread : Thread) (span : Called) (p q : Option Called) (columns : List Column) → list_any is_of_parent columns ≡ false → map (value_at run thread span p) columns ≡ map (value_at run thread span q) columns
 key-no_parent run thread span p q [] h = refl
@@ -85,16 +76,13 @@ span_key-known columns run thread spans places at s known here = by (list_any is
     by true e = ap (λ p. map (value_at run thread (called s) (option_map called p)) columns) (parent-known spans places at s (known e) here)
     by false e = key-no_parent run thread (called s) (option_map called (span_at spans (place_at places at))) (option_map called (parent_of spans s)) columns e
 
--- a step has the numbers of a set that are known of the span at a place
-pub sums_of-known : (set : NumberSet) (spans : List (Span Bytes)) (outer : List Bool) (at : ℕ) (t : Timed) → KnowOuter set.outer spans outer → slice_get spans at ≡ Some t.span →
-    only_in set (sums_of_span (length_of t.span) t.self_time (outer_at outer at)) ≡ only_in set (sums_of spans t)
-sums_of-known set spans outer at t known here = by set.outer refl
+-- a step has the numbers that are known of the span at a place
+pub sums_of-known : (numbers : List Number) (spans : List (Span Bytes)) (outer : List Bool) (at : ℕ) (t : Timed) → KnowOuter (has_number numbers Outer) spans outer → slice_get spans at ≡ Some t.span →
+    only numbers (sums_of_span (length_of t.span) t.self_time (outer_at outer at)) ≡ only numbers (sums_of spans t)
+sums_of-known numbers spans outer at t known here = only-same numbers (sums_of_span (length_of t.span) t.self_time (outer_at outer at)) (sums_of spans t) same
   where
-    by : (b : Bool) → set.outer ≡ b → only_in set (sums_of_span (length_of t.span) t.self_time (outer_at outer at)) ≡ only_in set (sums_of spans t)
-    by true e =
-        let found : slice_get outer at ≡ Some (is_outer spans t.span) = ap (λ (l : List Bool). slice_get l at) (known e) ∙ slice_get-map (is_outer spans) spans at ∙ ap (option_map (is_outer spans)) here in
-        ap (λ o. only_in set (sums_of_span (length_of t.span) t.self_time (unwrap_or o false))) found
-    by false e =
-        let nothing = λ (outer : Bool). ap (λ b. cond b (cond outer (length_of t.span) 0) 0) e in
-        same_numbers (only_in set (sums_of_span (length_of t.span) t.self_time (outer_at outer at))) (only_in set (sums_of spans t)) refl refl refl refl
-        (nothing (outer_at outer at) ∙ sym (nothing (is_outer spans t.span))) refl refl
+    same : (n : Number) → has_number numbers n ≡ true → number_by n (sums_of_span (length_of t.span) t.self_time (outer_at outer at)) ≡ number_by n (sums_of spans t)
+    same Outer has =
+        let found : slice_get outer at ≡ Some (is_outer spans t.span) = ap (λ (l : List Bool). slice_get l at) (known has) ∙ slice_get-map (is_outer spans) spans at ∙ ap (option_map (is_outer spans)) here in
+        ap (λ o. cond (unwrap_or o false) (length_of t.span) 0) found
+    same n has = refl

@@ -7,7 +7,7 @@ use Rattle.span_journal.proofs.Topics.{Rows.{rows-follow, values-follow}, Thread
 use Rattle.span_table.proofs.Parents.{is_outer-map, option_map-map, parent_of-map}
 use Rattle.span_keyed_tracks.specs.Async.{AsyncStep, async_spans}
 use Rattle.span_journal.specs.Topics.{of_async}
-use Rattle.span_table.specs.{Words, Thread, Bytes, Entry, ThreadRow, accepted, AsyncRow, AsyncKey, Names, longest_async, thread_keys, thread_row, Timed, timed_in, with_self_times, thread_events, of_process, Rises, renumbered_span, Span, length_of, outranks, closed_spans, is_outer, parent_of, Columns.{Called, async_value_at, holder_name, value_at}, Laws.{AreAlikeRuns, AreAllAlike, TablesFollowFromActs}, Numbers.set_of, Tables.{Run, Schema, counts_of, called, counts_together, keyed_span, rows_of, run_sums, schema_sums, sums_of, sums_of_async, sums_of_span, thread_sums, with_only}, declared.{column.Column.{Column, TheVariants.{Pid, Tid, Process, Thread as OfThread, Name, File, Cat, Scope, Id, Argument, ParentName, ParentArgument}}, of.Of.{Of, TheVariants.{Spans, Async}}}}
+use Rattle.span_table.specs.{Words, Thread, Bytes, Entry, ThreadRow, accepted, AsyncRow, AsyncKey, Names, longest_async, thread_keys, thread_row, Timed, timed_in, with_self_times, thread_events, of_process, Rises, renumbered_span, Span, length_of, outranks, closed_spans, is_outer, parent_of, Columns.{Called, async_value_at, holder_name, value_at}, Laws.{AreAlikeRuns, AreAllAlike, TablesFollowFromActs}, Sums.{sums_of_async, sums_of_span}, Tables.{Run, Schema, counts_of, called, counts_together, keyed_span, rows_of, run_sums, schema_sums, sums_of, thread_sums, with_only}, declared.{column.Column.{Column, TheVariants.{Process, Thread as OfThread, File}}, of.Of.{Of, TheVariants.{Spans, Async}}}}
 
 module _ (run other : Run) (alike : AreAlikeRuns run other) where
   -- processes and threads have the same names
@@ -15,32 +15,14 @@ module _ (run other : Run) (alike : AreAlikeRuns run other) where
   holder_name-alike pid tid = ap (λ (n : Names). option_map Words n.name) ((values-follow (of_process pid) run.journal other.journal (alike.journals.acts (of_process pid))).names tid)
 
   value_at-alike : (thread : Thread) (span : Called) (parent : Option Called) (column : Column) → value_at run thread span parent column ≡ value_at other thread span parent column
-  value_at-alike thread span parent Pid = refl
-  value_at-alike thread span parent Tid = refl
   value_at-alike thread span parent Process = holder_name-alike thread.pid None
   value_at-alike thread span parent OfThread = holder_name-alike thread.pid (Some thread.tid)
-  value_at-alike thread span parent Name = refl
   value_at-alike thread span parent File = ap (option_map Words) alike.file
-  value_at-alike thread span parent Cat = refl
-  value_at-alike thread span parent Scope = refl
-  value_at-alike thread span parent Id = refl
-  value_at-alike thread span parent (Argument key) = refl
-  value_at-alike thread span parent ParentName = refl
-  value_at-alike thread span parent (ParentArgument key) = refl
+  value_at-alike thread span parent column = refl
 
   async_value_at-alike : (key : AsyncKey) (column : Column) → async_value_at run key column ≡ async_value_at other key column
   async_value_at-alike key File = ap (option_map Words) alike.file
-  async_value_at-alike key Cat = refl
-  async_value_at-alike key Scope = refl
-  async_value_at-alike key Id = refl
-  async_value_at-alike key Name = refl
-  async_value_at-alike key Pid = refl
-  async_value_at-alike key Tid = refl
-  async_value_at-alike key Process = refl
-  async_value_at-alike key OfThread = refl
-  async_value_at-alike key (Argument name) = refl
-  async_value_at-alike key ParentName = refl
-  async_value_at-alike key (ParentArgument name) = refl
+  async_value_at-alike key column = refl
 
   longest_async-alike : (key : AsyncKey) → longest_async run.journal key ≡ longest_async other.journal key
   longest_async-alike key = ap (λ (steps : List AsyncStep). (async_spans steps).longest) (values-follow (of_async key) run.journal other.journal (alike.journals.acts (of_async key)))
@@ -104,7 +86,7 @@ sums-alike schema [] [] alike = refl
 sums-alike schema [] (other ∷ others) alike = elim alike [ ]
 sums-alike schema (run ∷ runs) [] alike = elim alike [ ]
 sums-alike schema (run ∷ runs) (other ∷ others) alike =
-    λ i. map (with_only (set_of schema.numbers)) (run_sums-alike run other alike.0 schema.columns schema.of i) ++ sums-alike schema runs others alike.1 i
+    λ i. map (with_only schema.numbers) (run_sums-alike run other alike.0 schema.columns schema.of i) ++ sums-alike schema runs others alike.1 i
 
 -- runs that are alike have the same table
 pub table_of-alike : TablesFollowFromActs

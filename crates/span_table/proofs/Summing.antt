@@ -1,8 +1,8 @@
 -- What is kept of sums by key, once more are added.
 use Rattle.std.specs.{BTreeMap.{insert_entry, is_at}, List.Sorted.IsStrictlySortedBy, Map.{keys_of, lookup}, Prelude.{OnOk, Result, unwrap_or}, declared.alloc.AllocError.AllocError}
-use Rattle.std.proofs.{Common.{◌≡◌, ℕ, ◌+◌, ◌≤◌, List, [], ◌∷◌, ◌++◌, append_assoc, get_or, length, map, take, sym, ap, subst, ◌∙◌, ◌^◌, ◌<◌, true, nat_lt}, lemmas.{Bool.{and_parts, ltb-true}, List.{take_all, take_more}}}
+use Rattle.std.proofs.{Common.{◌≡◌, ℕ, ◌+◌, ◌<◌, ◌≤◌, List, [], ◌∷◌, ◌++◌, append_assoc, get_or, length, map, take, sym, ap, subst, ◌∙◌}, lemmas.List.{take_all, take_more}}
 use Rattle.span_keyed_tracks.proofs.{Keyed.{entries_in-insert_entry, keys_of-made, kept_at-entries_in}, Sorted.ascending-sorted}
-use Rattle.span_table.specs.{Keyed, keys_in, steps_at, Collected.Takes, KeyLaws.{key_cmp_total, key_cmp-same}, Keys.{TableKey, key_cmp}, Sums.{fit, with_sums}, Tables.{KeyedSums, SumsByKey, summed, sums_together}, declared.sums.Sums.Sums}
+use Rattle.span_table.specs.{Keyed, keys_in, steps_at, Collected.Takes, KeyLaws.{key_cmp_total, key_cmp-same}, Keys.{TableKey, key_cmp}, Sums.with_sums, Tables.{KeyedSums, SumsByKey, summed, sums_together}, declared.sums.Sums.Sums}
 use Rattle.span_table.proofs.Tallies.{sums_together-push}
 
 -- keys that are kept rise
@@ -25,18 +25,6 @@ sums-added key was more now old new found is written = record {
 pub taken-as : (result : Result (Unit {0}) AllocError) (key own : TableKey) (more sums : Sums) (old new : SumsByKey) → key ≡ own → more ≡ sums →
     OnOk result (Takes old new (record { key = key; step = more } ∷ [])) → OnOk result (Takes old new (record { key = own; step = sums } ∷ []))
 taken-as result key own more sums old new is of takes = subst (λ (e : Keyed TableKey Sums). OnOk result (Takes old new (e ∷ []))) (λ i. record { key = is i; step = of i }) takes
-
--- the numbers of sums
-pub sums_small : (sums : Sums) → fit sums ≡ true →
-    (sums.count < 2 ^ 64) × (sums.total < 2 ^ 64) × (sums.self_time < 2 ^ 64) × (sums.longest < 2 ^ 64) × (sums.outer < 2 ^ 64) × (sums.unclosed < 2 ^ 64) × (sums.points < 2 ^ 64)
-sums_small sums h =
-    let one = and_parts (nat_lt sums.count (2 ^ 64)) _ h in
-    let two = and_parts (nat_lt sums.total (2 ^ 64)) _ one.1 in
-    let three = and_parts (nat_lt sums.self_time (2 ^ 64)) _ two.1 in
-    let four = and_parts (nat_lt sums.longest (2 ^ 64)) _ three.1 in
-    let five = and_parts (nat_lt sums.outer (2 ^ 64)) _ four.1 in
-    let six = and_parts (nat_lt sums.unclosed (2 ^ 64)) _ five.1 in
-    (ltb-true _ _ one.0, ltb-true _ _ two.0, ltb-true _ _ three.0, ltb-true _ _ four.0, ltb-true _ _ five.0, ltb-true _ _ six.0, ltb-true _ _ six.1)
 
 -- sums of items that are taken one after another
 module _ {A : Type 0} (all : List A → KeyedSums) (each : A → KeyedSums) (push : (items : List A) (item : A) → all (items ++ item ∷ []) ≡ all items ++ each item) (items : List A) (old : SumsByKey) where

@@ -2,32 +2,32 @@
 use Rattle.std.specs.{Cmp.IsTotalOrder, List.{AllByRecursion, Sorted.IsStrictlySortedBy}, Ordering.is_eq, Prelude.{filter, max, nat_lt, sum_by}, declared.cmp.Ordering.{Ordering, TheVariants.{Less, Equal}}}
 use Rattle.std.proofs.{Common.{◌≡◌, ℕ, ◌+◌, Bool, true, false, ◌||◌, cond, List, [], ◌∷◌, ◌++◌, map, refl, sym, ap, ap₂, ◌∙◌, arith}, lemmas.List.{map-append, Elements.filter-append, Sums.sum_by-cons}}
 use Rattle.span_keyed_tracks.proofs.Keyed.{has_key, same_from_is_eq}
-use Rattle.span_table.specs.{Keyed, steps_at, Sums.{no_sums, sums_together, with_sums}, declared.sums.Sums.Sums}
-
--- sums of which each number is the same
-pub same_numbers : (a b : Sums) → a.count ≡ b.count → a.total ≡ b.total → a.self_time ≡ b.self_time → a.longest ≡ b.longest → a.outer ≡ b.outer → a.unclosed ≡ b.unclosed → a.points ≡ b.points → a ≡ b
-same_numbers a b count total self_time longest outer unclosed points = λ i. record {
-  count = count i;
-  total = total i;
-  self_time = self_time i;
-  longest = longest i;
-  outer = outer i;
-  unclosed = unclosed i;
-  points = points i;
-}
+use Rattle.span_table.specs.{Keyed, steps_at, Sums.{no_sums, number_by, sums_together, with_sums}, declared.{number.Number.{Number, TheVariants.SelfTime}, sums.Sums.Sums}}
+use Rattle.span_table.proofs.Numbers.{same_numbers}
 
 -- those of nothing change nothing
 pub with_sums-none : (a : Sums) → with_sums no_sums a ≡ a
-with_sums-none a = same_numbers (with_sums no_sums a) a (omega arith) (omega arith) (omega arith) (omega arith) (omega arith) (omega arith) (omega arith)
+with_sums-none a = same_numbers (with_sums no_sums a) a each
+  where
+    each : (n : Number) → number_by n (with_sums no_sums a) ≡ number_by n a
+    each SelfTime = omega arith
+    each n = omega arith
 
 -- sums may be added in either order
 pub with_sums-turned : (a b : Sums) → with_sums a b ≡ with_sums b a
-with_sums-turned a b = same_numbers (with_sums a b) (with_sums b a) (omega arith) (omega arith) (omega arith) (omega arith) (omega arith) (omega arith) (omega arith)
+with_sums-turned a b = same_numbers (with_sums a b) (with_sums b a) each
+  where
+    each : (n : Number) → number_by n (with_sums a b) ≡ number_by n (with_sums b a)
+    each SelfTime = omega arith
+    each n = omega arith
 
 -- and grouped as one likes
 pub with_sums-grouped : (a b c : Sums) → with_sums (with_sums a b) c ≡ with_sums a (with_sums b c)
-with_sums-grouped a b c =
-    same_numbers (with_sums (with_sums a b) c) (with_sums a (with_sums b c)) (omega arith) (omega arith) (omega arith) (omega arith) (omega arith) (omega arith) (omega arith)
+with_sums-grouped a b c = same_numbers (with_sums (with_sums a b) c) (with_sums a (with_sums b c)) each
+  where
+    each : (n : Number) → number_by n (with_sums (with_sums a b) c) ≡ number_by n (with_sums a (with_sums b c))
+    each SelfTime = omega arith
+    each n = omega arith
 
 pub with_sums-nothing : (a : Sums) → with_sums a no_sums ≡ a
 with_sums-nothing a = with_sums-turned a no_sums ∙ with_sums-none a

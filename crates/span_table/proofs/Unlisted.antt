@@ -4,7 +4,7 @@ use Rattle.std.proofs.Common.{◌≡◌, ℕ, Bool, true, false, ◌||◌, cond,
 use Rattle.span_event.proofs.Orders.{thread_cmp-same, thread_cmp-total}
 use Rattle.span_keyed_tracks.proofs.{Keyed.{has_key, neither}, Uses.is_eq-turned}
 use Rattle.span_journal.proofs.Sorted.{AllByRecursion-append}
-use Rattle.span_table.specs.{Phase, SpanBegin, SpanEnd, Complete, AsyncBegin, AsyncPoint, AsyncEnd, FlowStart, FlowStep, FlowEnd, Counter, Meta, Instant, Thread, thread_cmp, Bytes, thread_of, is_instant, steps_at, opens, closes, closes_all, other, closed_after, open_of, names_thread, Entry, Accepted, Act, a_seal, accepted, an_event, thread_keys, SpanEvent, is_of_span, listed_by, lists_thread, span_event, span_events, thread_events, to_thread_at, told_at, told_by, ThreadEvent, closed_spans, span_between, span_sealed, whole_span, Laws.thread_key}
+use Rattle.span_table.specs.{Phase, SpanBegin, SpanEnd, Complete, Thread, thread_cmp, Bytes, thread_of, is_instant, steps_at, opens, closes, closes_all, other, closed_after, open_of, names_thread, Entry, Accepted, Act, a_seal, accepted, an_event, thread_keys, SpanEvent, is_of_span, listed_by, lists_thread, span_event, span_events, thread_events, to_thread_at, told_at, told_by, ThreadEvent, closed_spans, span_between, span_sealed, whole_span, Laws.thread_key}
 use Rattle.span_table.proofs.Alike.{has_key-ascending}
 
 -- the event is a seal
@@ -68,15 +68,7 @@ module _ (thread : Thread) where
       phase SpanBegin e = apart SpanBegin e refl
       phase SpanEnd e = apart SpanEnd e refl
       phase Complete e = apart Complete e refl
-      phase AsyncBegin e = others
-      phase AsyncPoint e = others
-      phase AsyncEnd e = others
-      phase FlowStart e = others
-      phase FlowStep e = others
-      phase FlowEnd e = others
-      phase Counter e = others
-      phase Meta e = others
-      phase Instant e = others
+      phase p e = others
 
   only_seals : (acts : List Accepted) → is_listed (filter_map (λ (a : Accepted). listed_by a.act) acts) ≡ false → AreSeals (steps_at thread_cmp thread (span_events acts))
   only_seals [] none = tt

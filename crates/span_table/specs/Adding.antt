@@ -1,6 +1,6 @@
 -- Tables are added, and lose nothing by it.
 use Rattle.std.specs.{List.{list_all, Sorted.IsPermutation}, Prelude.{◌≡◌, ℕ, true, List, [], ◌∷◌, ◌++◌, map, filter_map, flat_map, length, slice_get}}
-use Rattle.span_table.specs.{Keyed, Keys.TableKey, Numbers.{has_number, only}, Tables.{KeyedSums, Run, Schema, SpanTable, counts_together, rows_of, table_of}, declared.{counts.TableCounts.TableCounts, number.Number.Number, sums.Sums.Sums, table.Row.Row}}
+use Rattle.span_table.specs.{Keyed, Keys.TableKey, Numbers.has_number, Sums.only, Tables.{KeyedSums, Run, Schema, SpanTable, counts_together, rows_of, table_of}, declared.{counts.TableCounts.TableCounts, number.Number.Number, sums.Sums.Sums, table.Row.Row}}
 
 -- the sums of a row, under its key
 abbrev pub keyed_row : Row → Keyed TableKey Sums

@@ -1,22 +1,14 @@
 -- How the sums of a table are collected: row by row of a ledger's names or asynchronous keys, or span by span.
 use Rattle.std.specs.{List.list_any, Map.lookup, Option.option_and_then, Ordering.eq_by_cmp, Prelude.{◌≡◌, ◌||◌, ℕ, Bool, true, false, List, [], ◌++◌, map, slice_get, unwrap_or, Option, Some, None}}
-use Rattle.span_table.specs.{Bytes, Keyed, Span, SpanRow, is_outer, parent_of, thread_of_span, span_rows, Columns.{Called, Run, is_argument, is_of_parent, value_at}, Keys.{TableKey, key_cmp}, Tables.{KeyedSums, SumsByKey, summed}, declared.{column.Column.Column, number_set.NumberSet.NumberSet, sums.Sums.Sums}}
+use Rattle.span_table.specs.{Bytes, Keyed, Span, SpanRow, is_outer, parent_of, thread_of_span, span_rows, Columns.{Called, Run, is_argument, is_of_parent, value_at}, Keys.{TableKey, key_cmp}, Numbers.asks_each, Sums.sums_of_row, Tables.{KeyedSums, SumsByKey, summed}, declared.{column.Column.Column, number.Number.Number, sums.Sums.Sums}}
 
 -- the column asks a span for more than its name
 abbrev pub asks_spans : Column → Bool
 asks_spans column = is_argument column || is_of_parent column
 
--- the sums of a row, without the numbers that only its spans tell
-abbrev pub sums_of_row : SpanRow → Sums
-sums_of_row row = record { count = row.count; total = row.total; self_time = row.self_time; longest = 0; outer = 0; unclosed = 0; points = 0 }
-
--- sums without these numbers
-abbrev pub plain_sums : Sums → Sums
-plain_sums s = record { count = s.count; total = s.total; self_time = s.self_time; longest = 0; outer = 0; unclosed = s.unclosed; points = s.points }
-
 -- spans are asked for more than their names: by a column, or for a number
-abbrev pub asks_each_span : List Column → NumberSet → Bool
-asks_each_span columns set = list_any asks_spans columns || (set.longest || set.outer)
+abbrev pub asks_each_span : List Column → List Number → Bool
+asks_each_span columns numbers = list_any asks_spans columns || list_any asks_each numbers
 
 -- what is kept of some sums becomes what is kept of them and more
 pub record Takes (old new : SumsByKey) (more : KeyedSums) : Type 0 where

@@ -10,33 +10,12 @@ key_cmp_total = lists_total (options_total value_cmp_total)
 
 value_cmp-same : (a b : ArgValue) → value_cmp a b ≡ Equal → a ≡ b
 value_cmp-same Nil Nil e = refl
-value_cmp-same Nil (Flag b) e = cc
-value_cmp-same Nil (Whole b) e = cc
-value_cmp-same Nil (Words b) e = cc
-value_cmp-same Nil Other e = cc
-value_cmp-same (Flag a) Nil e = cc
 value_cmp-same (Flag true) (Flag true) e = refl
-value_cmp-same (Flag true) (Flag false) e = cc
-value_cmp-same (Flag false) (Flag true) e = cc
 value_cmp-same (Flag false) (Flag false) e = refl
-value_cmp-same (Flag a) (Whole b) e = cc
-value_cmp-same (Flag a) (Words b) e = cc
-value_cmp-same (Flag a) Other e = cc
-value_cmp-same (Whole a) Nil e = cc
-value_cmp-same (Whole a) (Flag b) e = cc
 value_cmp-same (Whole a) (Whole b) e = ap Whole (int_cmp-IsAntisymmetric a b (both_equal _ Equal e).0)
-value_cmp-same (Whole a) (Words b) e = cc
-value_cmp-same (Whole a) Other e = cc
-value_cmp-same (Words a) Nil e = cc
-value_cmp-same (Words a) (Flag b) e = cc
-value_cmp-same (Words a) (Whole b) e = cc
 value_cmp-same (Words a) (Words b) e = ap Words (text_same a b e)
-value_cmp-same (Words a) Other e = cc
-value_cmp-same Other Nil e = cc
-value_cmp-same Other (Flag b) e = cc
-value_cmp-same Other (Whole b) e = cc
-value_cmp-same Other (Words b) e = cc
 value_cmp-same Other Other e = refl
+value_cmp-same a b e = cc
 
 option_cmp-same : (a b : Value) → option_cmp value_cmp a b ≡ Equal → a ≡ b
 option_cmp-same None None e = refl

@@ -1,6 +1,6 @@
 -- The facts that hold of every table.
 use Rattle.std.specs.{List.{IsDistinct, Sorted.IsPermutation}, Ordering.{eq_by_cmp, is_eq}, Prelude.{◌≡◌, Bool, List, [], ◌∷◌, filter, map, sum_by, take, Some}}
-use Rattle.span_table.specs.{Whole, Words, Thread, AsyncRow, SpanRow, async_rows, span_rows, thread_row, IsLegal, AreAlike, with_home, Collected.sums_of_row, Keys.{TableKey, key_cmp}, Tables.{Run, RowsRise, Schema, sums_of_async, table_of, usual_schema}, declared.{column.Column.{Column, TheVariants.{Pid, Tid, Name, Cat, Scope, Id}}, of.Of.TheVariants.{Spans, Async}, table.Row.Row}}
+use Rattle.span_table.specs.{Whole, Words, Thread, AsyncRow, SpanRow, async_rows, span_rows, thread_row, IsLegal, AreAlike, with_home, Keys.{TableKey, key_cmp}, Sums.{sums_of_async, sums_of_row}, Tables.{Run, RowsRise, Schema, table_of, usual_schema}, declared.{column.Column.{Column, TheVariants.{Pid, Tid, Name, Cat, Scope, Id}}, of.Of.TheVariants.{Spans, Async}, table.Row.Row}}
 
 -- two runs have journals that are alike, and as many files, of which as many were refused, and the same name of an only file
 pub record AreAlikeRuns (run other : Run) : Type 0 where

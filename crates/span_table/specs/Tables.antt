@@ -1,35 +1,11 @@
 -- Tables: the closed spans of runs, or their asynchronous spans, summed by columns.
-use Rattle.std.specs.{List.{IsDistinct, Sorted.IsStrictlySortedBy}, Option.option_map, Ordering.eq_by_cmp, Prelude.{◌≡◌, ℕ, if◌then◌else◌, Bool, List, map, flat_map, sum_by}, declared.cmp.Ordering.Ordering}
-use Rattle.span_table.specs.{Thread, AsyncRow, Keyed, ascending, entries_in, CountRow, accepted, async_rows, count_row, longest_async, thread_keys, Timed, timed_spans, thread_events, Bytes, Span, closed_spans, is_outer, length_of, parent_of, Columns.{Called, async_value_at, value_at}, Keys.{TableKey, key_cmp}, Numbers.{only_in, set_of, usual_numbers}, declared.{number_set.NumberSet.NumberSet, column.Column.Column, counts.TableCounts.TableCounts, number.Number.Number, of.Of.{Of, TheVariants.{Spans, Async}}, audience.Audience.TheVariants.Programs, sums.Sums.Sums, table.Row.Row}}
+use Rattle.std.specs.{List.{IsDistinct, Sorted.IsStrictlySortedBy}, Option.option_map, Ordering.eq_by_cmp, Prelude.{◌≡◌, List, map, flat_map, sum_by}, declared.cmp.Ordering.Ordering}
+use Rattle.span_table.specs.{Thread, AsyncRow, Keyed, ascending, entries_in, CountRow, accepted, async_rows, count_row, longest_async, thread_keys, Timed, timed_spans, thread_events, Bytes, Span, closed_spans, is_outer, length_of, parent_of, Columns.{Called, async_value_at, value_at}, Keys.{TableKey, key_cmp}, Numbers.usual_numbers, Sums.{only, sums_of_async, sums_of_span}, declared.{column.Column.Column, counts.TableCounts.TableCounts, number.Number.Number, of.Of.{Of, TheVariants.{Spans, Async}}, audience.Audience.TheVariants.Programs, sums.Sums.Sums, table.Row.Row}}
 pub use Rattle.span_table.specs.{Columns.Run, Sums.sums_together}
 
--- the numbers of a closed span of this length and self time, which is outer or isn't
-abbrev pub sums_of_span : ℕ → ℕ → Bool → Sums
-sums_of_span length self_time outer = record {
-  count = 1;
-  total = length;
-  self_time = self_time;
-  longest = length;
-  outer = if outer then length else 0;
-  unclosed = 0;
-  points = 0;
-}
-
--- those of one of the spans of a thread
+-- the numbers of one of the spans of a thread
 abbrev pub sums_of : List (Span Bytes) → Timed → Sums
 sums_of spans t = sums_of_span (length_of t.span) t.self_time (is_outer spans t.span)
-
--- an asynchronous key with its numbers, and the length of its longest closed span
-abbrev pub sums_of_async : AsyncRow → ℕ → Sums
-sums_of_async row longest = record {
-  count = row.totals.closed;
-  total = row.totals.total;
-  self_time = 0;
-  longest = longest;
-  outer = 0;
-  unclosed = row.totals.unclosed;
-  points = row.totals.points;
-}
 
 -- sums, each under its key
 abbrev pub KeyedSums : Type 0
@@ -134,13 +110,13 @@ pub record SpanTable : Type 0 where
   pub counts : TableCounts
   pub rows : List Row
 
--- sums with the numbers of a set alone
-abbrev pub with_only : {K : Type 0} → NumberSet → Keyed K Sums → Keyed K Sums
-with_only set e = record { key = e.key; step = only_in set e.step }
+-- these numbers of sums alone, under their key
+abbrev pub with_only : {K : Type 0} → List Number → Keyed K Sums → Keyed K Sums
+with_only numbers e = record { key = e.key; step = only numbers e.step }
 
 -- what a table of a schema sums of a run
 abbrev pub schema_sums : Schema → Run → KeyedSums
-schema_sums schema run = map (with_only (set_of schema.numbers)) (run_sums schema.of schema.columns run)
+schema_sums schema run = map (with_only schema.numbers) (run_sums schema.of schema.columns run)
 
 -- the table of some runs
 abbrev pub table_of : Schema → List Run → SpanTable

@@ -1,11 +1,11 @@
 //! Adds the sums of a run: from the rows of names or of asynchronous keys, or span by span where the table asks spans for more.
 ghost use Rattle.std.specs.{List.list_any, Option.option_map, Prelude.{◌≡◌, ◌∷◌, [], map, IfOk, IsTrue, OnOk}};
-ghost use Rattle.span_table.specs.{AreSpans, distance, length_of, longest_async, spans_of, timed_spans, Collected.{KnowOuter, KnowParents, Takes, asks_each_span, asks_spans, keyed_span_row, outer_at, place_at, row_sums, span_at}, Columns.{async_value_at, is_of_parent, value_at}, Numbers.{only_in, set_of}, Tables.{async_sums, called, keyed_async, schema_sums, span_sums, sums_of_span, thread_sums, with_only}};
+ghost use Rattle.span_table.specs.{AreSpans, distance, length_of, longest_async, spans_of, timed_spans, Collected.{KnowOuter, KnowParents, Takes, asks_each_span, asks_spans, keyed_span_row, outer_at, place_at, row_sums, span_at}, Columns.{async_value_at, is_of_parent, value_at}, Numbers.{asks_each, has_number}, Sums.{only, sums_of_span}, Tables.{async_sums, called, keyed_async, schema_sums, span_sums, thread_sums, with_only}, declared.number.Number.TheVariants.{Longest, Outer}};
 
 use crate::column::Column;
 use crate::groups::Groups;
 use crate::key::Key;
-use crate::number_set::NumberSet;
+use crate::number::{Number, has_number};
 use crate::of::Of;
 use crate::run::LedgerRun;
 use crate::schema::Schema;
@@ -24,14 +24,11 @@ pub(crate) struct RunColumns<'r, 'a> {
     pub(crate) alloc: Global,
     pub(crate) run: &'r LedgerRun<'a>,
     pub(crate) schema: &'r Schema,
-    /// That of the schema's numbers.
-    pub(crate) set: NumberSet,
 }
 
 impl<'r, 'a> RunColumns<'r, 'a> {
     /// Adds the sums of the run.
     pub(crate) fn add_to(&self, groups: &mut Groups) -> Result<(), AllocError>
-        requires { self.now.set ≡ set_of self.now.schema.now.numbers }
         ensures { OnOk result (Takes groups.old groups.new
             (schema_sums self.now.schema.now self.now.run.now)) }
     {
@@ -44,9 +41,8 @@ impl<'r, 'a> RunColumns<'r, 'a> {
 
     // The sums of closed spans.
     fn add_closed(&self, groups: &mut Groups) -> Result<(), AllocError>
-        requires { self.now.set ≡ set_of self.now.schema.now.numbers }
         ensures { OnOk result (Takes groups.old groups.new
-            (map (with_only self.now.set) (span_sums self.now.schema.now.columns self.now.run.now))) }
+            (map (with_only self.now.schema.now.numbers) (span_sums self.now.schema.now.columns self.now.run.now))) }
     {
         if self.asks_each_span() {
             return self.add_spans(groups);
@@ -56,16 +52,24 @@ impl<'r, 'a> RunColumns<'r, 'a> {
 
     // Whether spans are asked for more than their names.
     fn asks_each_span(&self) -> bool
-        ensures { result ≡ asks_each_span self.now.schema.now.columns self.now.set }
+        ensures { result ≡ asks_each_span self.now.schema.now.columns self.now.schema.now.numbers }
     {
         let schema = self.schema;
-        ask_spans(&schema.columns) || self.set.longest || self.set.outer
+        ask_spans(&schema.columns) || ask_each(self.numbers())
+    }
+
+    // The numbers of the table.
+    fn numbers(&self) -> &'r [Number]
+        ensures { result.now ≡ self.now.schema.now.numbers }
+    {
+        let schema = self.schema;
+        &schema.numbers
     }
 
     // The sums of the rows of names, for a table that asks a span for no more than its name.
     fn add_rows(&self, groups: &mut Groups) -> Result<(), AllocError>
         ensures { OnOk result (Takes groups.old groups.new
-            (map (with_only self.now.set) (row_sums self.now.schema.now.columns self.now.run.now))) }
+            (map (with_only self.now.schema.now.numbers) (row_sums self.now.schema.now.columns self.now.run.now))) }
     {
         let run = self.run;
         let rows = run.ledger.span_rows(self.alloc)?;
@@ -85,7 +89,7 @@ impl<'r, 'a> RunColumns<'r, 'a> {
     ) -> Result<(), AllocError>
         requires { none.now ≡ [] }
         ensures { OnOk result (Takes groups.old groups.new
-            (with_only self.now.set (keyed_span_row self.now.schema.now.columns self.now.run.now row.now) ∷ [])) }
+            (with_only self.now.schema.now.numbers (keyed_span_row self.now.schema.now.columns self.now.run.now row.now) ∷ [])) }
     {
         let thread = Thread {
             pid: row.pid,
@@ -100,13 +104,13 @@ impl<'r, 'a> RunColumns<'r, 'a> {
             parent: None,
         };
         let key = self.key_of(&seen)?;
-        groups.add(key, Sums::of_row(row).only(self.set))
+        groups.add(key, Sums::of_row(row).only(self.numbers()))
     }
 
     // The sums of the rows of asynchronous keys.
     fn add_async_rows(&self, groups: &mut Groups) -> Result<(), AllocError>
         ensures { OnOk result (Takes groups.old groups.new
-            (map (with_only self.now.set) (async_sums self.now.schema.now.columns self.now.run.now))) }
+            (map (with_only self.now.schema.now.numbers) (async_sums self.now.schema.now.columns self.now.run.now))) }
     {
         let run = self.run;
         let rows = run.ledger.async_rows(self.alloc)?;
@@ -118,19 +122,19 @@ impl<'r, 'a> RunColumns<'r, 'a> {
 
     fn add_async_row(&self, groups: &mut Groups, row: &AsyncRow) -> Result<(), AllocError>
         ensures { OnOk result (Takes groups.old groups.new
-            (with_only self.now.set (keyed_async self.now.schema.now.columns self.now.run.now row.now) ∷ [])) }
+            (with_only self.now.schema.now.numbers (keyed_async self.now.schema.now.columns self.now.run.now row.now) ∷ [])) }
     {
         let key = self.async_key_of(&row.key)?;
         let sums = Sums::of_async(row, self.longest_of(&row.key));
-        groups.add(key, sums.only(self.set))
+        groups.add(key, sums.only(self.numbers()))
     }
 
     // The length of the longest closed span of an asynchronous key, if that is asked for.
     fn longest_of(&self, key: &AsyncKey) -> u64
-        ensures { IsTrue self.now.set.longest
+        ensures { IsTrue (has_number self.now.schema.now.numbers Longest)
             → result ≡ longest_async self.now.run.now.journal key.now }
     {
-        if self.set.longest {
+        if has_number(self.numbers(), Number::Longest) {
             let run = self.run;
             return run.ledger.longest_async(key);
         }
@@ -140,7 +144,7 @@ impl<'r, 'a> RunColumns<'r, 'a> {
     // The sums of closed spans, one by one.
     fn add_spans(&self, groups: &mut Groups) -> Result<(), AllocError>
         ensures { OnOk result (Takes groups.old groups.new
-            (map (with_only self.now.set) (span_sums self.now.schema.now.columns self.now.run.now))) }
+            (map (with_only self.now.schema.now.numbers) (span_sums self.now.schema.now.columns self.now.run.now))) }
     {
         let run = self.run;
         let threads = run.ledger.threads(self.alloc)?;
@@ -156,7 +160,7 @@ impl<'r, 'a> RunColumns<'r, 'a> {
 
     fn add_thread(&self, groups: &mut Groups, thread: Thread) -> Result<(), AllocError>
         ensures { OnOk result (Takes groups.old groups.new
-            (map (with_only self.now.set) (thread_sums self.now.schema.now.columns self.now.run.now thread))) }
+            (map (with_only self.now.schema.now.numbers) (thread_sums self.now.schema.now.columns self.now.run.now thread))) }
     {
         let spans = timed_spans(self.alloc, self.run, thread)?;
         let places = self.parents_of(&spans)?;
@@ -189,9 +193,9 @@ impl<'r, 'a> RunColumns<'r, 'a> {
     fn outer_of(&self, spans: &[TimedSpan]) -> Result<Vec<bool>, AllocError>
         requires { AreSpans (spans_of spans.now) }
         ensures { IfOk result (λ found.
-            KnowOuter self.now.set.outer (spans_of spans.now) found.items) }
+            KnowOuter (has_number self.now.schema.now.numbers Outer) (spans_of spans.now) found.items) }
     {
-        if self.set.outer {
+        if has_number(self.numbers(), Number::Outer) {
             return outer(self.alloc, spans);
         }
         Ok(Vec::new(self.alloc))
@@ -207,7 +211,7 @@ impl<'r, 'a> RunColumns<'r, 'a> {
         ensures { OnOk result (Takes groups.old groups.new (record {
           key = map (value_at self.now.run.now seen.now.thread seen.now.span seen.now.parent)
               self.now.schema.now.columns;
-          step = only_in self.now.set
+          step = only self.now.schema.now.numbers
               (sums_of_span (length_of timed.now.span) timed.now.self_time is_outer);
         } ∷ [])) }
     {
@@ -215,7 +219,7 @@ impl<'r, 'a> RunColumns<'r, 'a> {
         let key = self.key_of(seen)?;
         let length = length(span.start, span.until);
         let sums = Sums::of_span(length, timed.self_time, is_outer);
-        groups.add(key, sums.only(self.set))
+        groups.add(key, sums.only(self.numbers()))
     }
 
     // The key of a span.
@@ -252,6 +256,12 @@ fn ask_spans(columns: &[Column]) -> bool
     ensures { result ≡ list_any asks_spans columns.now }
 {
     columns.iter().any(|column| column.asks_spans())
+}
+
+fn ask_each(numbers: &[Number]) -> bool
+    ensures { result ≡ list_any asks_each numbers.now }
+{
+    numbers.iter().any(|number| number.asks_each())
 }
 
 // Whether the span at a place is outer, as far as that is known.

@@ -1,6 +1,9 @@
-//! The numbers of a row.
-ghost use Rattle.std.specs.{List.find, Prelude.{◌≡◌}, Str.bytes_eq};
-ghost use Rattle.span_table.specs.Numbers.{are_same, async_numbers, has_number, is_time, number_name, number_named, number_width};
+//! The numbers of a row, and which ones there are of what is summed.
+ghost use Rattle.std.specs.Prelude.{◌≡◌};
+ghost use Rattle.span_table.specs.Numbers.{all_numbers, all_of, are_same, asks_each, has_number, is_time, number_name, number_named, number_width, usual_by, usual_numbers};
+
+use crate::audience::Audience;
+use crate::of::Of;
 
 /// A number of a row. Times are ticks, microseconds or nanoseconds; the others are counts.
 #[derive(Clone, Copy, Debug, PartialEq, Eq)]
@@ -24,14 +27,10 @@ impl Number {
     pub fn named(name: &str) -> Option<Number>
         ensures { result ≡ number_named name.now }
     {
-        match name {
-            "self" => Some(Number::SelfTime),
-            "total" => Some(Number::Total),
-            "count" => Some(Number::Count),
-            "longest" => Some(Number::Longest),
-            "outer" => Some(Number::Outer),
-            _ => async_named(name),
-        }
+        all_numbers()
+            .iter()
+            .copied()
+            .find(|number| number.name() == name)
     }
 
     /// What it is called in every text.
@@ -60,6 +59,13 @@ impl Number {
         )
     }
 
+    /// Whether only the spans of a name tell it, and not the row of the name.
+    pub(crate) fn asks_each(self) -> bool
+        ensures { result ≡ asks_each self }
+    {
+        matches!(self, Number::Longest | Number::Outer)
+    }
+
     /// How wide its column is at least.
     pub fn width(self) -> usize
         ensures { result ≡ number_width self }
@@ -68,16 +74,70 @@ impl Number {
     }
 }
 
-// The number of this name that only asynchronous spans have.
-fn async_named(name: &str) -> Option<Number>
-    ensures { result ≡ find (λ number. bytes_eq (number_name number) name.now) async_numbers }
-{
-    match name {
-        "closed" => Some(Number::Closed),
-        "open" => Some(Number::Open),
-        "points" => Some(Number::Points),
-        _ => None,
+impl Of {
+    /// The numbers that a text shows where none are named.
+    pub fn numbers(self, audience: Audience) -> &'static [Number]
+        ensures { result.now ≡ usual_numbers audience self }
+    {
+        match (audience, self) {
+            (Audience::People, Of::Spans) => { &[Number::SelfTime, Number::Total, Number::Count] }
+            (Audience::People, Of::Async) => {
+                &[Number::Total, Number::Closed, Number::Open, Number::Points]
+            }
+            (Audience::Programs, Of::Spans) => { &[Number::Count, Number::Total, Number::SelfTime] }
+            (Audience::Programs, Of::Async) => {
+                &[Number::Closed, Number::Total, Number::Open, Number::Points]
+            }
+        }
     }
+
+    /// Every number that it has.
+    pub fn all(self) -> &'static [Number]
+        ensures { result.now ≡ all_of self }
+    {
+        match self {
+            Of::Spans => &[
+                Number::SelfTime,
+                Number::Total,
+                Number::Count,
+                Number::Longest,
+                Number::Outer,
+            ],
+            Of::Async => &[
+                Number::Total,
+                Number::Closed,
+                Number::Open,
+                Number::Points,
+                Number::Longest,
+            ],
+        }
+    }
+
+    /// The number that rows go by where none is named.
+    pub fn by(self) -> Number
+        ensures { result ≡ usual_by self }
+    {
+        match self {
+            Of::Spans => Number::SelfTime,
+            Of::Async => Number::Total,
+        }
+    }
+}
+
+/// Every number.
+pub(crate) fn all_numbers() -> &'static [Number]
+    ensures { result.now ≡ all_numbers }
+{
+    &[
+        Number::SelfTime,
+        Number::Total,
+        Number::Count,
+        Number::Longest,
+        Number::Outer,
+        Number::Closed,
+        Number::Open,
+        Number::Points,
+    ]
 }
 
 /// Whether the number is one of these.

@@ -1,9 +1,8 @@
 //! What spans come to together.
 ghost use Rattle.std.specs.Prelude.{◌≡◌, IfOk};
-ghost use Rattle.span_table.specs.{Collected.sums_of_row, Numbers.{number_by, only_in, with_number}, Sums.{fit, no_sums, same_sums, with_sums}, Tables.{sums_of_async, sums_of_span}};
+ghost use Rattle.span_table.specs.Sums.{fit, no_sums, number_by, only, same_sums, sums_of_async, sums_of_row, sums_of_span, with_number, with_sums};
 
-use crate::number::Number;
-use crate::number_set::NumberSet;
+use crate::number::{Number, all_numbers};
 use crate::wide::{is_narrow, plus};
 use span_journal::SpanRow;
 use span_keyed_tracks::AsyncRow;
@@ -127,44 +126,32 @@ impl Sums {
         }
     }
 
-    /// The numbers of a set alone; the others are 0.
-    pub fn only(&self, set: NumberSet) -> Sums
-        ensures { result ≡ only_in set self.now }
+    /// These numbers alone; the others are 0.
+    pub fn only(&self, numbers: &[Number]) -> Sums
+        ensures { result ≡ only numbers.now self.now }
     {
-        Sums {
-            count: if set.count { self.count } else { 0 },
-            total: if set.total { self.total } else { 0 },
-            self_time: if set.self_time { self.self_time } else { 0 },
-            longest: if set.longest { self.longest } else { 0 },
-            outer: if set.outer { self.outer } else { 0 },
-            unclosed: if set.unclosed { self.unclosed } else { 0 },
-            points: if set.points { self.points } else { 0 },
+        let mut sums = Sums::of_none();
+        for number in numbers.iter().rev() {
+            sums.put(*number, self.by(*number));
         }
+        sums
     }
 
     /// Whether all numbers are equal.
     pub fn equals(&self, other: &Sums) -> bool
         ensures { result ≡ same_sums self.now other.now }
     {
-        self.self_time == other.self_time
-            && self.total == other.total
-            && self.count == other.count
-            && self.longest == other.longest
-            && self.outer == other.outer
-            && self.unclosed == other.unclosed
-            && self.points == other.points
+        all_numbers()
+            .iter()
+            .all(|number| self.by(*number) == other.by(*number))
     }
 }
 
-/// Whether the sums have 64 bits.
+/// Whether all numbers have 64 bits.
 pub fn fits(sums: &Sums) -> bool
     ensures { result ≡ fit sums.now }
 {
-    is_narrow(sums.count)
-        && is_narrow(sums.total)
-        && is_narrow(sums.self_time)
-        && is_narrow(sums.longest)
-        && is_narrow(sums.outer)
-        && is_narrow(sums.unclosed)
-        && is_narrow(sums.points)
+    all_numbers()
+        .iter()
+        .all(|number| is_narrow(sums.by(*number)))
 }

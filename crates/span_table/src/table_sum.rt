@@ -6,7 +6,6 @@ use crate::collected::RunColumns;
 use crate::counts::TableCounts;
 use crate::groups::Groups;
 use crate::merging::merged;
-use crate::number_set::NumberSet;
 use crate::run::LedgerRun;
 use crate::schema::Schema;
 use crate::table::{Row, Table};
@@ -119,12 +118,10 @@ impl TableSum {
     {
         let counts = self.counts.plus(&TableCounts::of(run))?;
         let mut groups = self.groups;
-        let schema = &self.schema;
         let by = RunColumns {
             alloc: *self.rows.allocator(),
             run,
-            schema,
-            set: NumberSet::of(&schema.numbers),
+            schema: &self.schema,
         };
         by.add_to(&mut groups)?;
         Ok(TableSum {

@@ -1,10 +1,10 @@
 -- Two tables that are printed alike are the same.
 use Rattle.std.proofs.{Common.{◌≡◌, ◌≢◌, ℕ, ◌^◌, ◌<◌, ◌==◌, Bool, cond, false, true, List, [], ◌∷◌, ◌++◌, All, drop, flat_map, get_or, length, map, refl, sym, ap, subst, ◌∙◌, Some, None, append_assoc, arith, codes}, lemmas.{Fmt.{decimal_injective, signed_decimal_injective}, List.Elements.{All-head, All-tail, All-weaker}}}
 use Rattle.json.specs.{Lex.tokens, Print.print, Token.{Token, begin_array, end_array, end_object, key, string}}
-use Rattle.span_table.specs.Numbers.{with_number}
-use Rattle.span_table.proofs.Only.{are_same-same, number_name-same, only-cons}
-use Rattle.span_table_text.specs.{ArgValue, Nil, Flag, Whole, Words, Other, Bytes, Unit, Microseconds, Nanoseconds, Column, Pid, Tid, Process, Thread, Name, File, Cat, Scope, Id, Argument, ParentName, ParentArgument, TableCounts, Number, SelfTime, Total, Count, Longest, Outer, Closed, Open, Points, Of, Programs, Spans, Async, Sums, Row, are_same, column_name, counts_fit, fit, number_by, number_name, only, usual_numbers, Schema, TableKey, SpanTable, Json.{json_line, text_of}, Printed.{AllFit, AreDistinct, HasOwn, IsOfArgument, IsPart, IsPrint, IsRowOf, IsTable, PartsAreDetermined}, Tokens.{columns_tokens, head_tokens, key_tokens, list_tokens, name_tokens, numbers_tokens, of_tokens, row_tokens, sums_tokens, unit_tokens, value_tokens}}
-use Rattle.span_table_text.proofs.PrintedLines.{AreSmall, IsDetermined, IsDeterminedKey, IsLine, IsRowOf-determined, counts_small, json_head-print, json_line-print, number_by-small, numbers_fit-each, print_head-IsLine, print_row-IsLine, tokens-head, tokens-row}
+use Rattle.span_table.specs.Sums.{with_number}
+use Rattle.span_table.proofs.Numbers.{are_same-same, number_by-small, number_name-same}
+use Rattle.span_table_text.specs.{ArgValue, Nil, Flag, Whole, Words, Other, Bytes, Unit, Microseconds, Nanoseconds, Column, Pid, Tid, Process, Thread, Name, File, Cat, Scope, Id, Argument, ParentName, ParentArgument, TableCounts, Number, SelfTime, Of, Programs, Spans, Async, Sums, Row, are_same, column_name, counts_fit, fit, number_by, number_name, only, usual_numbers, Schema, TableKey, SpanTable, Json.{json_line, text_of}, Printed.{AllFit, AreDistinct, HasOwn, IsOfArgument, IsPart, IsPrint, IsRowOf, IsTable, PartsAreDetermined}, Tokens.{columns_tokens, head_tokens, key_tokens, list_tokens, name_tokens, numbers_tokens, of_tokens, row_tokens, sums_tokens, unit_tokens, value_tokens}}
+use Rattle.span_table_text.proofs.PrintedLines.{AreSmall, IsDetermined, IsDeterminedKey, IsLine, IsRowOf-determined, counts_small, json_head-print, json_line-print, numbers_fit-each, print_head-IsLine, print_row-IsLine, tokens-head, tokens-row}
 
 -- two texts are the same if their first lines are, and what follows these
 line-determined : (a b r s : Bytes) → IsLine a → IsLine b → a ++ 10 ∷ r ≡ b ++ 10 ∷ s → (a ≡ b) × (r ≡ s)
@@ -30,17 +30,7 @@ column_called name =
 column_called-name : (column : Column) → column_called (column_name column) ≡ column
 unfolding column_called
 column_called-name Pid = refl
-column_called-name Tid = refl
-column_called-name Process = refl
-column_called-name Thread = refl
-column_called-name Name = refl
-column_called-name File = refl
-column_called-name Cat = refl
-column_called-name Scope = refl
-column_called-name Id = refl
-column_called-name (Argument name) = refl
-column_called-name ParentName = refl
-column_called-name (ParentArgument name) = refl
+column_called-name column = refl
 
 -- two columns with the same name are the same
 pub column_name-injective : (column other : Column) → column_name column ≡ column_name other → column ≡ other
@@ -53,13 +43,7 @@ column_name-not_number number column e = by number (sym (ap column_name (sym (co
   where
     by : (number : Number) → column_name (column_called (number_name number)) ≡ number_name number → ⊥
     by SelfTime same = omega (arith, ap length same)
-    by Total same = omega (arith, ap length same)
-    by Count same = omega (arith, ap length same)
-    by Longest same = omega (arith, ap length same)
-    by Outer same = omega (arith, ap length same)
-    by Closed same = omega (arith, ap length same)
-    by Open same = omega (arith, ap length same)
-    by Points same = omega (arith, ap length same)
+    by number same = omega (arith, ap length same)
 
 names-determined : (columns others : List Column) (ts us : List Token) → name_tokens columns ++ end_array ∷ ts ≡ name_tokens others ++ end_array ∷ us → (columns ≡ others) × (ts ≡ us)
 names-determined [] [] ts us e = (refl, ap (drop 1) e)
@@ -114,7 +98,7 @@ only-determined [] sums others ts us h k e = refl
 only-determined (number ∷ numbers) sums others ts us h k e =
     let value : number_by number sums ≡ number_by number others = decimal_injective _ _ (number_by-small number sums h) (number_by-small number others k) (cc e) in
     let rest = only-determined numbers sums others ts us h k (ap (drop 2) e) in
-    sym (only-cons number numbers sums) ∙ (λ i. with_number number (value i) (rest i)) ∙ only-cons number numbers others
+    λ i. with_number number (value i) (rest i)
 
 row-determined : (schema : Schema) (row other : Row) → 0 < length schema.numbers → AreDistinct (map column_name schema.columns) → IsDetermined schema row → IsDetermined schema other
     → row_tokens schema row ≡ row_tokens schema other → row ≡ other

@@ -3,8 +3,8 @@ use Rattle.std.specs.{Char.digit_char, Fmt.signed_decimal, Int.w64, List.{AllByR
 use Rattle.std.proofs.{Common.{◌≡◌, ◌≢◌, ℕ, ℤ, pos, negsuc, suc, ◌+◌, ◌/◌, ◌%◌, ◌^◌, ◌<◌, ◌≤◌, Bool, true, false, true≢false, cond, ◌&&◌, ◌||◌, ◌==◌, nat_lt, List, [], ◌∷◌, ◌++◌, All, codes, length, map, refl, sym, ap, ◌∙◌, Some, None, arith, decimal, FitsSigned}, lemmas.{Bool.{and_parts, ltb-false, ltb-true}, Fmt.decimal_is_IsNumeral, List.{Elements.All-from_recursion, Sums.AllPass-from_list_all}, Str.Parse.digit_from_value}}
 use Rattle.json.specs.{Lex.tokens, Print.{ArePrintable, IsNumber, IsPrintable, begins, ends, escape, escape_byte, escape_letter, print, print_from, quoted, separator, token_text}, Token.{Token, begin_object, end_object, begin_array, end_array, key, string, number, boolean, null, bad}}
 use Rattle.json.proofs.Printed.{Decimals.{IsNumber-decimal, IsNumber-signed_decimal}, Tokens.tokens-print}
-use Rattle.span_table.proofs.Summing.{sums_small}
-use Rattle.span_table_text.specs.{ArgValue, Nil, Flag, Whole, Words, Other, Bytes, Unit, Microseconds, Nanoseconds, Column, Pid, Tid, Process, Thread, Name, File, Cat, Scope, Id, Argument, ParentName, ParentArgument, TableCounts, Number, SelfTime, Total, Count, Longest, Outer, Closed, Open, Points, Of, Programs, Spans, Async, Sums, Row, Value, are_same, counts_fit, fit, number_by, number_name, usual_numbers, Schema, TableKey, SpanTable, Json.{json_head, json_line, numbers_fit}, Printed.{HasOwn, IsKeyOf, IsOfArgument, IsRowOf, KeyFits, MayHave}, Tokens.{columns_tokens, entry_counts_tokens, head_tokens, key_tokens, list_tokens, name_tokens, numbers_tokens, of_tokens, row_tokens, sums_tokens, unit_tokens, value_tokens}}
+use Rattle.span_table.proofs.Numbers.{number_by-small}
+use Rattle.span_table_text.specs.{ArgValue, Nil, Flag, Whole, Words, Other, Bytes, Unit, Microseconds, Nanoseconds, Column, Pid, Tid, Argument, ParentArgument, TableCounts, Number, Of, Programs, Spans, Async, Sums, Row, Value, are_same, counts_fit, fit, number_by, number_name, usual_numbers, Schema, TableKey, SpanTable, Json.{json_head, json_line, numbers_fit}, Printed.{HasOwn, IsKeyOf, IsOfArgument, IsRowOf, KeyFits, MayHave}, Tokens.{columns_tokens, entry_counts_tokens, head_tokens, key_tokens, list_tokens, name_tokens, numbers_tokens, of_tokens, row_tokens, sums_tokens, unit_tokens, value_tokens}}
 
 -- no line feed is among the bytes
 abbrev pub IsLine : Bytes → Type 0
@@ -12,16 +12,9 @@ IsLine = AllByRecursion (λ byte. byte ≢ 10)
 
 -- the token can be printed, in a line
 abbrev IsInLine : Token → Type 0
-IsInLine begin_object = ⊤
-IsInLine end_object = ⊤
-IsInLine begin_array = ⊤
-IsInLine end_array = ⊤
-IsInLine (key text) = ⊤
-IsInLine (string text) = ⊤
 IsInLine (number text) = IsNumber text × IsLine text
-IsInLine (boolean flag) = ⊤
-IsInLine null = ⊤
 IsInLine bad = ⊥
+IsInLine token = ⊤
 
 abbrev AreInLine : List Token → Type 0
 AreInLine = AllByRecursion IsInLine
@@ -97,16 +90,9 @@ print-line after [] h = tt
 print-line after (t ∷ ts) h = IsLine-append (separator after t) _ (separator-line after t) (IsLine-append (token_text t) _ (token-line t h.0) (print-line (ends t) ts h.1))
 
 printable : (t : Token) → IsInLine t → IsPrintable t
-printable begin_object h = tt
-printable end_object h = tt
-printable begin_array h = tt
-printable end_array h = tt
-printable (key text) h = tt
-printable (string text) h = tt
 printable (number text) h = h.0
-printable (boolean flag) h = tt
-printable null h = tt
 printable bad h = h
+printable token h = tt
 
 all_printable : (ts : List Token) → AreInLine ts → ArePrintable ts
 unfolding ArePrintable
@@ -132,17 +118,6 @@ numbers_fit-each table h =
     let fits = λ (row : Row). fit row.sums in
     let both = and_parts (counts_fit table.counts) (list_all fits table.rows) h in
     (both.0, AllPass-from_list_all fits table.rows both.1)
-
--- each number of sums that fit does
-pub number_by-small : (n : Number) (sums : Sums) → fit sums ≡ true → number_by n sums < 2 ^ 64
-number_by-small SelfTime sums h = (sums_small sums h).2
-number_by-small Total sums h = (sums_small sums h).1
-number_by-small Count sums h = (sums_small sums h).0
-number_by-small Closed sums h = (sums_small sums h).0
-number_by-small Longest sums h = (sums_small sums h).3
-number_by-small Outer sums h = (sums_small sums h).4
-number_by-small Open sums h = (sums_small sums h).5
-number_by-small Points sums h = (sums_small sums h).6
 
 sums-in_line : (numbers : List Number) (sums : Sums) → fit sums ≡ true → AreInLine (sums_tokens numbers sums)
 sums-in_line [] sums h = tt
@@ -199,25 +174,14 @@ numbers-in_line rows counts few small =
 whole_fits : (column : Column) (whole : ℤ) → MayHave column (Some (Whole whole)) → FitsSigned w64 whole
 whole_fits Pid whole h = h
 whole_fits Tid whole h = h
-whole_fits Process whole h = absurd h
-whole_fits Thread whole h = absurd h
-whole_fits Name whole h = absurd h
-whole_fits File whole h = absurd h
-whole_fits Cat whole h = absurd h
-whole_fits Scope whole h = absurd h
-whole_fits Id whole h = absurd h
 whole_fits (Argument name) whole h = h
-whole_fits ParentName whole h = absurd h
 whole_fits (ParentArgument name) whole h = h
+whole_fits column whole h = absurd h
 
 -- a value that a column may have, an argument may have
 pub IsOfArgument-any : (column : Column) (value : Value) → MayHave column value → IsOfArgument value
-IsOfArgument-any column None may = tt
-IsOfArgument-any column (Some Nil) may = tt
-IsOfArgument-any column (Some (Flag flag)) may = tt
 IsOfArgument-any column (Some (Whole whole)) may = whole_fits column whole may
-IsOfArgument-any column (Some (Words text)) may = tt
-IsOfArgument-any column (Some Other) may = tt
+IsOfArgument-any column value may = tt
 
 -- a key that its line determines: a value for each column, whose numbers have 64 bits
 abbrev pub IsDeterminedKey : List Column → TableKey → Type 0

@@ -3,8 +3,8 @@ use Rattle.std.specs.{Prelude.⊤, Cmp.{IsTotalOrder, eq_by_cmp_equiv}, List.{li
 use Rattle.std.proofs.{Common.{◌≡◌, ◌+◌, ◌<◌, ◌==◌, Bool, true, false, cond, not, ◌&&◌, ◌||◌, List, [], ◌∷◌, All, Contains, filter, flat_map, get_or, is_some, length, map, Option, Some, None, option_map, refl, sym, ap, ap₂, subst, ◌∙◌, arith}, lemmas.{Bool.{and_parts, eqb-true}, List.{length-map, Elements.{All-append, All-contains, All-contains_itself, All-filter, All-head, All-map, All-nil, All-tail, All-weaker}}, Map.Views.list_any-from_Contains}}
 use Rattle.span_event.specs.declared.thread.Thread.{Thread}
 use Rattle.span_keyed_tracks.proofs.{Keyed.has_key, SameKeys.{All-ascending, step_keys}, Uses.is_eq-turned}
-use Rattle.span_table.specs.{Numbers.{only_in, set_of}, Sums.{no_sums, with_sums}, Tables.{sums_of, sums_of_async}, declared.number_set.NumberSet.NumberSet}
-use Rattle.span_table.proofs.{Only.{only-again, only_in-together, only_in-with_sums}, Rows.RowsRise-rows_of, SomeAsync.async_rows-some, Tallies.{tally, tally-cons}}
+use Rattle.span_table.specs.{Sums.{no_sums, sums_of_async, with_sums}, Tables.sums_of}
+use Rattle.span_table.proofs.{Only.{number_by-only, only-again, only-together, only-with_sums}, Rows.RowsRise-rows_of, SomeAsync.async_rows-some, Tallies.{tally, tally-cons}}
 use Rattle.span_table_text.specs.{Words, Bytes, Unit, AsyncKey, Keyed, entry_of, keys_in, steps_at, accepted, async_rows, names_of, thread_events, thread_keys, Timed, timed_spans, Span, closed_spans, parent_of, Called, called, Column, Pid, Tid, Process, Thread as OfThread, Name, File, Cat, Scope, Id, Argument, ParentName, ParentArgument, Of, Spans, Async, Number, Count, Closed, Open, Points, Sums, Row, Run, AreAmong, async_value_at, goes_with, has_number, only, value_at, key_cmp_total, TableKey, key_cmp, KeyedSums, RowsRise, Schema, SpanTable, keyed_async, keyed_span, longest_async, row_of, rows_of, run_sums, schema_sums, sums_together, table_of, thread_sums, with_only, Json.shown_table, Printed.{AllFit, AllIsPrinted, HasFile, HasOwn, HasSome, HaveFiles, IsKeyOf, IsOfLegal, IsName, IsOfArgument, IsPart, IsPrint, IsSchema, IsTable, IsWords, KeyFits, MayHave, PrintsAreParts, counted, counts_of}, Shown.{Wanted, is_wanted, key_has, wants_all}}
 use Rattle.span_table_text.proofs.{Determined.{HasOwnNumbers, HasWholeKeys, prints-determined}, PrintedLines.numbers_fit-each, Ranked.filter-sorted}
 
@@ -25,19 +25,12 @@ counted-with_sums Async a b = omega arith
 
 -- numbers among which its counts are tell the same of a key
 pub counted-only : (of : Of) (numbers : List Number) (s : Sums) → AreAmong (counts_of of) numbers → counted of (only numbers s) ≡ counted of s
-counted-only Spans numbers s told = ap (λ b. cond (b || has_number numbers Closed) s.count 0) (and_parts (has_number numbers Count) true told).0
+counted-only Spans numbers s told = number_by-only numbers Count s (and_parts (has_number numbers Count) true told).0
 counted-only Async numbers s told =
     let one = and_parts (has_number numbers Closed) _ told in
     let two = and_parts (has_number numbers Open) _ one.1 in
     let three = and_parts (has_number numbers Points) true two.1 in
-    let closed : cond (has_number numbers Count || has_number numbers Closed) s.count 0 ≡ s.count = ap (λ b. cond (has_number numbers Count || b) s.count 0) one.0 ∙ ap (λ b. cond b s.count 0) (either (has_number numbers Count)) in
-    let open_ones : cond (has_number numbers Open) s.unclosed 0 ≡ s.unclosed = ap (λ b. cond b s.unclosed 0) two.0 in
-    let points : cond (has_number numbers Points) s.points 0 ≡ s.points = ap (λ b. cond b s.points 0) three.0 in
-    λ i. closed i + (open_ones i + points i)
-  where
-    either : (b : Bool) → (b || true) ≡ true
-    either true = refl
-    either false = refl
+    λ i. number_by-only numbers Closed s one.0 i + (number_by-only numbers Open s two.0 i + number_by-only numbers Points s three.0 i)
 
 -- where each step counts something, so do those of a key that has one
 module _ {K : Type 0} {cmp : K → K → Ordering} (o : IsTotalOrder cmp) (of : Of) where
@@ -92,12 +85,12 @@ module _ (columns : List Column) (P : Keyed TableKey Sums → Type 0) where
 -- what everything has that a table of a schema sums of a run
 module _ (schema : Schema) (P : Keyed TableKey Sums → Type 0) where
   abbrev kept : Keyed TableKey Sums → Type 0
-  kept e = P (with_only (set_of schema.numbers) e)
+  kept e = P (with_only schema.numbers e)
 
   -- what that of each run has, that of all runs has
   All-runs : (runs : List Run) → All (OfRun schema.of schema.columns kept) runs → All P (flat_map (schema_sums schema) runs)
   All-runs runs each = All-flat_map P (schema_sums schema) runs
-      (All-weaker (OfRun schema.of schema.columns kept) (λ run. All P (schema_sums schema run)) (λ run has. All-map P (with_only (set_of schema.numbers)) (run_sums schema.of schema.columns run) (All-run schema.columns kept schema.of run has)) runs each)
+      (All-weaker (OfRun schema.of schema.columns kept) (λ run. All P (schema_sums schema run)) (λ run has. All-map P (with_only schema.numbers) (run_sums schema.of schema.columns run) (All-run schema.columns kept schema.of run has)) runs each)
 
   All-runs-every : ((run : Run) → OfRun schema.of schema.columns kept run) → (runs : List Run) → All P (flat_map (schema_sums schema) runs)
   All-runs-every each runs = All-runs runs (All-every (OfRun schema.of schema.columns kept) each runs)
@@ -148,9 +141,9 @@ All-own : (schema : Schema) (es : KeyedSums) → All (λ (e : Keyed TableKey Sum
 All-own schema es own = All-rows (λ row. HasOwn schema row.sums) es (λ k has. together (steps_at key_cmp k es) (All-steps (HasOwn schema) k es own))
   where
     together : (sums : List Sums) → All (HasOwn schema) sums → sums_together sums ≡ only schema.numbers (sums_together sums)
-    together [] each = sym (only_in-together (set_of schema.numbers) [])
+    together [] each = sym (only-together schema.numbers [])
     together (s ∷ sums) each =
-        ap₂ with_sums (All-head (HasOwn schema) s sums each) (together sums (All-tail (HasOwn schema) s sums each)) ∙ sym (only_in-with_sums (set_of schema.numbers) s (sums_together sums))
+        ap₂ with_sums (All-head (HasOwn schema) s sums each) (together sums (All-tail (HasOwn schema) s sums each)) ∙ sym (only-with_sums schema.numbers s (sums_together sums))
 
 -- where all sums count something, so do all rows
 All-some : (schema : Schema) (es : KeyedSums) → All (λ (e : Keyed TableKey Sums). HasSome schema e.step) es → All (λ (row : Row). HasSome schema row.sums) (rows_of es)
@@ -230,13 +223,7 @@ module _ (run : Run) (key : AsyncKey) where
   async_value_at-MayHave Id suited file = tt
   async_value_at-MayHave Name suited file = tt
   async_value_at-MayHave File suited file = words run.file file
-  async_value_at-MayHave Pid suited file = absurd (cc suited)
-  async_value_at-MayHave Tid suited file = absurd (cc suited)
-  async_value_at-MayHave Process suited file = absurd (cc suited)
-  async_value_at-MayHave OfThread suited file = absurd (cc suited)
-  async_value_at-MayHave (Argument name) suited file = absurd (cc suited)
-  async_value_at-MayHave ParentName suited file = absurd (cc suited)
-  async_value_at-MayHave (ParentArgument name) suited file = absurd (cc suited)
+  async_value_at-MayHave column suited file = absurd (cc suited)
 
   async_key-MayBeKey : (columns : List Column) → All (λ column. goes_with Async column ≡ true) columns → All (HasFile run) columns → MayBeKey columns (map (async_value_at run key) columns)
   async_key-MayBeKey [] suited files = tt
@@ -250,8 +237,8 @@ module _ (schema : Schema) where
   abbrev columns : List Column
   columns = schema.columns
 
-  abbrev numbers : NumberSet
-  numbers = set_of schema.numbers
+  abbrev numbers : List Number
+  numbers = schema.numbers
 
   -- each key of what is summed has a value for each column
   run-whole : (of : Of) (run : Run) → OfRun of columns (λ e. length e.key ≡ length columns) run
@@ -259,12 +246,12 @@ module _ (schema : Schema) where
   run-whole Async run = λ k d low. length-map columns (async_value_at run (get_or (async_rows run.journal) k d).key)
 
   -- it has no numbers but those of the schema
-  run-own : (of : Of) (run : Run) → OfRun of columns (λ e. HasOwn schema (only_in numbers e.step)) run
+  run-own : (of : Of) (run : Run) → OfRun of columns (λ e. HasOwn schema (only numbers e.step)) run
   run-own Spans run = λ thread spans t. sym (only-again schema.numbers (sums_of spans t))
   run-own Async run = λ k d low. let row = get_or (async_rows run.journal) k d in sym (only-again schema.numbers (sums_of_async row (longest_async run.journal row.key)))
 
   -- counts that tell something of a key tell it with the numbers of the schema alone
-  some-only : (of : Of) → schema.of ≡ of → (s : Sums) → 0 < counted of s → HasSome schema (only_in numbers s)
+  some-only : (of : Of) → schema.of ≡ of → (s : Sums) → 0 < counted of s → HasSome schema (only numbers s)
   some-only of is s some = λ told. omega (arith, some, counted-only schema.of schema.numbers s told, ap (λ o. counted o s) is)
 
   run-Suits : (of : Of) → schema.of ≡ of → All (λ column. goes_with of column ≡ true) columns → (run : Run) → All (HasFile run) columns → IsOfLegal run → OfRun of columns (λ e. Suits schema (with_only numbers e)) run

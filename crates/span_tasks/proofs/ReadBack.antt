@@ -11,7 +11,7 @@ use Rattle.span_parts.proofs.{Places.{AreAt-each, picked-at}, PrintedSums.sum-Ha
 use Rattle.span_request.specs.{Condition, Options, Asked.Asked, Columns.is_file, Laws.{AddedTablesMayHaveThem, AddedTablesMayShowThem, ConditionsMayTestThem, TablesMayHaveThem, TablesMayShowThem}, Request.AreSound, Rules.takes_apart, Tasks.{IsOptions, settings_of}}
 use Rattle.span_request.specs.declared.tasks.Items.{Items, TheVariants.{Apart, Printed, Together}}
 use Rattle.span_table.specs.{Adding.AreAmong, Columns.goes_with, Numbers.{are_same, usual_numbers}, declared.{audience.Audience.{Audience, TheVariants.{People, Programs}}, number.Number.Number, of.Of.{Of, TheVariants.{Spans, Async}}}}
-use Rattle.span_table.proofs.Only.{AreAmong-self, are_same-same}
+use Rattle.span_table.proofs.Numbers.{AreAmong-self, are_same-same}
 use Rattle.span_table.specs.declared.column.Column.TheVariants as of
 use Rattle.span_tasks.specs.{AreColumns, AskedNumbers, Chooses, Column, HasOtherSchema, Input, IsPart, IsPrint, IsSchema, LacksAsked, Listed, Name, PartSum, Run, Schema, Settings, SourceBytes, SpanTable, TableOptions, TimeUnit, chosen, printed, run_alone, run_of_files, shorter, shown_numbers, shown_table, summed_schema, table_of, unread_line, AreAt, Added.{AreOfFirst, AreTooMany, IsOfKind, IsRead, IsText, StopsAdding, StopsNext, most_added, with_sum}, ReadBack.{AsksNoNumbers, HasPart, JsonLinesAreParts, PartsAreAdded}, Summed.{asked_of, schema_of, summed_of, tested_in}, Tabulations.{MakesJson, PrintsText}}
 use Rattle.span_tasks.proofs.{Fleets.only-narrowed, InTurn.journal_in_turn-legal}
@@ -31,9 +31,7 @@ in_order-among audience of own = by (are_same own (usual_numbers Programs of)) r
   where
     usual : (audience : Audience) (of : Of) → AreAmong (usual_numbers audience of) (usual_numbers Programs of)
     usual People Spans = refl
-    usual People Async = refl
-    usual Programs Spans = refl
-    usual Programs Async = refl
+    usual audience of = refl
 
     by : (b : Bool) → are_same own (usual_numbers Programs of) ≡ b → AreAmong (cond b (usual_numbers audience of) own) own
     by true e = subst (AreAmong (usual_numbers audience of)) (sym (are_same-same own (usual_numbers Programs of) e)) (usual audience of)
@@ -112,17 +110,7 @@ no-file run (column ∷ columns) none =
   where
     by : (column : Column) → is_file column ≡ false → HasFile run column
     by of.File e = absurd (true≢false e)
-    by of.Pid e = tt
-    by of.Tid e = tt
-    by of.Process e = tt
-    by of.Thread e = tt
-    by of.Name e = tt
-    by of.Cat e = tt
-    by of.Scope e = tt
-    by of.Id e = tt
-    by (of.Argument key) e = tt
-    by of.ParentName e = tt
-    by (of.ParentArgument key) e = tt
+    by column e = tt
 
 -- a file that is a run of its own has its name
 own-file : (cut : ℕ) (settings : Settings) (columns : List Column) (file : Input) → All (HasFile (shorter cut (run_alone settings file))) columns
@@ -130,17 +118,7 @@ own-file cut settings columns file = λ k d low. by (get_or columns k d)
   where
     by : (column : Column) → HasFile (shorter cut (run_alone settings file)) column
     by of.File = refl
-    by of.Pid = tt
-    by of.Tid = tt
-    by of.Process = tt
-    by of.Thread = tt
-    by of.Name = tt
-    by of.Cat = tt
-    by of.Scope = tt
-    by of.Id = tt
-    by (of.Argument key) = tt
-    by of.ParentName = tt
-    by (of.ParentArgument key) = tt
+    by column = tt
 
 -- of what stands before others holds what holds of all
 All-front : {A : Type 0} (P : A → Type 0) (front back : List A) → All P (front ++ back) → All P front

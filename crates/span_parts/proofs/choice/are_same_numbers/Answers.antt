@@ -1,5 +1,5 @@
 use Rattle.std.proofs.Common.{ap, sym, ◌∙◌}
-use Rattle.span_table.proofs.Only.{are_same-own, are_same-same}
+use Rattle.span_table.proofs.Numbers.{are_same-own, are_same-same}
 use Rattle.span_parts.specs.{are_same}
 use Rattle.span_parts.proofs.choice.are_same_numbers.Goals as goal
 

@@ -1,7 +1,6 @@
 use Rattle.std.proofs.Common.{◌++◌, ap, ap₂, sym, ◌∙◌}
-use Rattle.span_table.specs.Numbers.{number_by, with_number}
-use Rattle.span_table.proofs.Only.{only-cons}
-use Rattle.span_table_text.proofs.PrintedLines.{number_by-small}
+use Rattle.span_table.specs.Sums.{number_by, with_number}
+use Rattle.span_table.proofs.Numbers.{number_by-small}
 use Rattle.span_parts.specs.{number_tokens, only, sums_tokens}
 use Rattle.span_parts.proofs.guess.+put_sums.Goals as goal
 
@@ -29,4 +28,4 @@ returns t c = λ sums rest fits is.
     let next = is ∙ ap (λ numbers. sums_tokens numbers sums ++ rest) split ∙ ap (λ name. number_tokens name (number_by first sums) ++ (sums_tokens later sums ++ rest)) (sym c.name.ensures) in
     let found = c.in_ok-value.ensures (number_by first sums) (sums_tokens later sums ++ rest) (number_by-small first sums fits) next in
     let others = c.in_ok-rest.ensures sums rest fits found.1 in
-    (others.0, c.put.ensures ∙ ap₂ (with_number first) (c.from.ensures ∙ found.0) others.1 ∙ only-cons first later sums ∙ ap (λ numbers. only numbers sums) (sym split))
+    (others.0, c.put.ensures ∙ ap₂ (with_number first) (c.from.ensures ∙ found.0) others.1 ∙ ap (λ numbers. only numbers sums) (sym split))
