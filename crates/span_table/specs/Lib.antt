@@ -12,7 +12,7 @@ pub mod Numbers
 pub mod RowSearch
 pub mod Sums
 pub mod Tables
-pub use Rattle.span_event.specs.{Args.{Arguments, value_of}, Orders.{thread_cmp, value_cmp}, Text.{Bytes, same_text, text_cmp}, Thread.thread_of, Time.distance, ValueLaws.value_cmp_total, declared.{args.ArgValue.{ArgValue, TheVariants.{Flag, Nil, Other, Whole, Words}}, event.Phase.{Phase, TheVariants.{AsyncBegin, AsyncEnd, AsyncPoint, Complete, Counter, FlowEnd, FlowStart, FlowStep, Instant, Meta, SpanBegin, SpanEnd}}, thread.Thread.Thread}}
+pub use Rattle.span_event.specs.{Args.{Arguments, value_of}, Orders.{thread_cmp, value_cmp}, Text.{Bytes, same_text, text_cmp}, Thread.thread_of, Time.distance, ValueLaws.value_cmp_total, declared.{args.ArgValue.{ArgValue, TheVariants.{Flag, Nil, Other, Whole, Words}}, event.Phase.{Phase, TheVariants.{Complete, SpanBegin, SpanEnd}}, thread.Thread.Thread}}
 pub use Rattle.span_self_time.specs.{Laws.{AreSpans, is_child}, Positions.{Rises, renumbered_span}, Spans.{Span, busy_time, length_of, named, outranks}}
 pub use Rattle.span_keyed_tracks.specs.{Instants.is_instant, Keyed.{AreDistinct, Keyed, ascending, entries_in, entry_of, in_key_order, keys_in, steps_at}, Matching.{closed_after, closes, closes_all, open_of, opens, other}, Meta.{Holder, Names, names_thread}, declared.{async_track.AsyncRow.AsyncRow, keys.AsyncKey.AsyncKey}}
 pub use Rattle.span_track.specs.Nesting.{ThreadEvent, closed_spans, span_between, span_sealed, whole_span}
