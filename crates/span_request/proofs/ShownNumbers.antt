@@ -16,7 +16,9 @@ in_order-own audience of own = by (are_same own (usual_numbers Programs of)) ref
   where
     usual : (audience : Audience) (of : Of) → list_all (has_number (usual_numbers Programs of)) (usual_numbers audience of) ≡ true
     usual People Spans = refl
-    usual audience of = refl
+    usual People Async = refl
+    usual Programs Spans = refl
+    usual Programs Async = refl
 
     by : (b : Bool) → are_same own (usual_numbers Programs of) ≡ b → list_all (has_number own) (cond b (usual_numbers audience of) own) ≡ true
     by true e = subst (λ all. list_all (has_number all) (usual_numbers audience of) ≡ true) (sym (are_same-same own (usual_numbers Programs of) e)) (usual audience of)
@@ -185,4 +187,6 @@ tables-shown options asked table sound own is =
 
     in_order-all : (audience : Audience) (of : Of) → list_all (has_number (all_of of)) (in_order audience of (usual_numbers Programs of)) ≡ true
     in_order-all People Spans = refl
-    in_order-all audience of = refl
+    in_order-all People Async = refl
+    in_order-all Programs Spans = refl
+    in_order-all Programs Async = refl

@@ -66,9 +66,8 @@ pub only-plain : (numbers : List Number) (s : Sums) → list_any asks_each numbe
 only-plain numbers s none = only-among numbers plain_numbers s (each numbers none)
   where
     plain : (n : Number) → asks_each n ≡ false → has_number plain_numbers n ≡ true
-    plain Longest asks = cc
-    plain Outer asks = cc
-    plain n asks = refl
+    plain SelfTime asks = refl
+    plain n asks = cc
 
     each : (numbers : List Number) → list_any asks_each numbers ≡ false → AreAmong numbers plain_numbers
     each [] none = refl

@@ -31,7 +31,9 @@ in_order-among audience of own = by (are_same own (usual_numbers Programs of)) r
   where
     usual : (audience : Audience) (of : Of) → AreAmong (usual_numbers audience of) (usual_numbers Programs of)
     usual People Spans = refl
-    usual audience of = refl
+    usual People Async = refl
+    usual Programs Spans = refl
+    usual Programs Async = refl
 
     by : (b : Bool) → are_same own (usual_numbers Programs of) ≡ b → AreAmong (cond b (usual_numbers audience of) own) own
     by true e = subst (AreAmong (usual_numbers audience of)) (sym (are_same-same own (usual_numbers Programs of) e)) (usual audience of)
