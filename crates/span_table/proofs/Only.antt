@@ -2,7 +2,7 @@
 use Rattle.std.specs.{Cmp.Lexicographic.bytes_decides, List.list_any, Ordering.is_eq, Prelude.{filter, not}, Str.bytes_eq, declared.cmp.Ordering.Ordering}
 use Rattle.std.proofs.{Common.{◌≡◌, ℕ, ◌&&◌, ◌||◌, Bool, true, false, cond, List, [], ◌∷◌, map, refl, sym, ap, ap₂, subst, ◌∙◌}, lemmas.Bool.or_parts}
 use Rattle.span_keyed_tracks.proofs.{Keyed.has_key, SameKeys.step_keys}
-use Rattle.span_table.specs.{Keyed, steps_at, Adding.AreAmong, Keys.key_cmp, Numbers.{all_numbers, asks_each, has_number, number_name}, Sums.{no_sums, number_by, only, with_number, with_sums}, Tables.{KeyedSums, sums_together, with_only}, declared.{number.Number.{Number, TheVariants.{SelfTime, Longest, Outer}}, sums.Sums.Sums}}
+use Rattle.span_table.specs.{Keyed, steps_at, Adding.AreAmong, Keys.key_cmp, Numbers.{all_numbers, asks_each, has_number, number_name}, Sums.{no_sums, number_by, only, with_number, with_sums}, Tables.{KeyedSums, sums_together, with_only}, declared.{number.Number.{Number, TheVariants.{SelfTime}}, sums.Sums.Sums}}
 use Rattle.span_table.proofs.{Alike.AddUpAlike, Numbers.{AreAmong-self, list_all-among, number_name-same, only-same}}
 
 -- a number that is put has its value

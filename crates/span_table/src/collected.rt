@@ -165,13 +165,17 @@ impl<'r, 'a> RunColumns<'r, 'a> {
         let spans = timed_spans(self.alloc, self.run, thread)?;
         let places = self.parents_of(&spans)?;
         let outer = self.outer_of(&spans)?;
+        // One key serves all spans, and is copied where it is new.
+        let mut key = Key::of(Vec::new(self.alloc));
         for (place, timed) in spans.iter().enumerate() {
             let seen = SeenSpan {
                 thread,
                 span: CalledSpan::of(timed),
                 parent: parent_at(&spans, &places, place),
             };
-            self.add_span(groups, &seen, timed, outer_at(&outer, place))?;
+            self.put_key(&mut key, &seen)?;
+            let sums = self.sums_of(timed, outer_at(&outer, place));
+            groups.add_copy(&key, &sums)?;
         }
         Ok(())
     }
@@ -201,25 +205,14 @@ impl<'r, 'a> RunColumns<'r, 'a> {
         Ok(Vec::new(self.alloc))
     }
 
-    fn add_span(
-        &self,
-        groups: &mut Groups,
-        seen: &SeenSpan,
-        timed: &TimedSpan,
-        is_outer: bool,
-    ) -> Result<(), AllocError>
-        ensures { OnOk result (Takes groups.old groups.new (record {
-          key = map (value_at self.now.run.now seen.now.thread seen.now.span seen.now.parent)
-              self.now.schema.now.columns;
-          step = only self.now.schema.now.numbers
-              (sums_of_span (length_of timed.now.span) timed.now.self_time is_outer);
-        } ∷ [])) }
+    // The numbers of the table that a span has.
+    fn sums_of(&self, timed: &TimedSpan, is_outer: bool) -> Sums
+        ensures { result ≡ only self.now.schema.now.numbers
+            (sums_of_span (length_of timed.now.span) timed.now.self_time is_outer) }
     {
         let span = timed.span;
-        let key = self.key_of(seen)?;
         let length = length(span.start, span.until);
-        let sums = Sums::of_span(length, timed.self_time, is_outer);
-        groups.add(key, sums.only(self.numbers()))
+        Sums::of_span(length, timed.self_time, is_outer).only(self.numbers())
     }
 
     // The key of a span.
@@ -228,13 +221,23 @@ impl<'r, 'a> RunColumns<'r, 'a> {
             ≡ map (value_at self.now.run.now seen.now.thread seen.now.span seen.now.parent)
             self.now.schema.now.columns) }
     {
+        let mut key = Key::of(Vec::new(self.alloc));
+        self.put_key(&mut key, seen)?;
+        Ok(key)
+    }
+
+    // Makes a key that of a span. It takes no memory where the key had as many values.
+    fn put_key(&self, key: &mut Key, seen: &SeenSpan) -> Result<(), AllocError>
+        ensures { OnOk result (key.new
+            ≡ map (value_at self.now.run.now seen.now.thread seen.now.span seen.now.parent)
+            self.now.schema.now.columns) }
+    {
         let schema = self.schema;
-        let columns = schema.columns.as_slice();
-        let mut values = Vec::with_capacity(self.alloc, columns.len())?;
-        for column in columns {
-            values.push(column.value(self.alloc, self.run, seen)?)?;
+        key.clear();
+        for column in &schema.columns {
+            key.push(column.value(self.alloc, self.run, seen)?)?;
         }
-        Ok(Key::of(values))
+        Ok(())
     }
 
     // The key of an asynchronous key.

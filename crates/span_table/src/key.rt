@@ -1,5 +1,5 @@
 //! By what the rows of a table are distinguished.
-ghost use Rattle.std.specs.{Cmp.{eq_by_cmp_equiv, partial_equiv_from_equiv, partial_order_from_total}, Ordering.eq_by_cmp, Prelude.{◌≡◌, Some, refl, fold, IfOk}};
+ghost use Rattle.std.specs.{Cmp.{eq_by_cmp_equiv, partial_equiv_from_equiv, partial_order_from_total}, Ordering.eq_by_cmp, Prelude.{◌≡◌, ◌↔◌, ◌++◌, ◌∷◌, [], Some, refl, fold, IfOk, IsTrue, OnOk}};
 ghost use Rattle.std.proofs.Common.{ap};
 ghost use Rattle.span_table.specs.{KeyLaws.{key_cmp_total, key_eq-same}, KeyWrites.{key_writes, value_writes}, Keys.key_cmp};
 
@@ -37,6 +37,20 @@ impl Key {
         &self.values
     }
 
+    pub(crate) fn clear(&mut self)
+        ensures { self.new ≡ [] }
+    {
+        self.values.clear();
+    }
+
+    /// Appends a value.
+    pub(crate) fn push(&mut self, value: Option<ArgValue>) -> Result<(), AllocError>
+        ensures { OnOk result (self.new ≡ self.old ++ value ∷ []) }
+    {
+        self.values.push(value)?;
+        Ok(())
+    }
+
     pub(crate) fn try_clone(&self, alloc: Global) -> Result<Key, AllocError>
         ensures { IfOk result (λ copy. copy ≡ self.now) }
     {
@@ -53,8 +67,9 @@ impl PartialEq for Key {
 
     ghost laws = { partial_equiv_from_equiv (eq_by_cmp_equiv key_cmp_total) };
 
+    // Texts of different lengths differ, which their order doesn't look at.
     fn eq(&self, other: &Key) -> bool {
-        self.cmp(other).is_eq()
+        are_same(&self.values, &other.values)
     }
 }
 
@@ -96,6 +111,24 @@ impl Hash for Key {
             hash_value(value, state);
         }
     }
+}
+
+fn are_same(values: &[Option<ArgValue>], others: &[Option<ArgValue>]) -> bool
+    ensures { IsTrue result ↔ values.now ≡ others.now }
+{
+    let Some((value, values)) = values.split_first() else {
+        return others.is_empty();
+    };
+    let Some((other, others)) = others.split_first() else {
+        return false;
+    };
+    is_same(value, other) && are_same(values, others)
+}
+
+fn is_same(value: &Option<ArgValue>, other: &Option<ArgValue>) -> bool
+    ensures { IsTrue result ↔ value.now ≡ other.now }
+{
+    value == other
 }
 
 // A value begins with a byte that no text has, so different keys give the hasher different bytes, though neither how many values there

@@ -22,8 +22,8 @@ loop-place-preserved c =
     let key = ap₂ (λ s p. map (value_at run thread s p) columns) c.of.ensures parent ∙ span_key-known columns run thread closed places place timed.span known here in
     let outer = subst (λ all. KnowOuter (has_number numbers Outer) all c.in_ok-outer.outer.items) (ap spans_of c.deref-2.ensures.value ∙ are) c.in_ok-outer.ensures in
     let sums = ap (λ o. only numbers (sums_of_span (length_of timed.span) timed.self_time o)) (c.outer_at.ensures ∙ ap (λ (l : List Bool). outer_at l place) c.deref-in-loop-place-3.ensures.value) ∙ sums_of-known numbers closed c.in_ok-outer.outer.items place timed outer here in
-    let taken = subst (λ (e : Keyed TableKey Sums). Takes c.loop-place.groups c.add_span.new.groups (e ∷ [])) (λ i. record { key = key i; step = sums i }) c.in_ok-add_span.ensures in
-    Takes-next (map make) (λ t. make t ∷ []) (map_push make) c.deref-timed-items.result.now c.args.groups.now place timed c.loop-place.groups c.add_span.new.groups
+    let taken = subst (λ (e : Keyed TableKey Sums). Takes c.loop-place.groups c.add_copy.new.self (e ∷ [])) (λ i. record { key = (c.in_ok-put_key.ensures ∙ key) i; step = (c.sums_of-sums.ensures ∙ sums) i }) c.in_ok-add_copy.ensures.takes in
+    Takes-next (map make) (λ t. make t ∷ []) (map_push make) c.deref-timed-items.result.now c.args.groups.now place timed c.loop-place.groups c.add_copy.new.self
     c.loop-place-test.true c.timed-item.is c.loop-place.invariant taken
 
 pub returns : goal.returns

@@ -1,7 +1,0 @@
-use Rattle.std.proofs.Common.{◌≡◌, map, take}
-use Rattle.span_table.specs.Columns.{value_at}
-use Rattle.span_table.proofs.collected.RunColumns.key_of.Given as goal
-
--- the values of the columns so far
-abbrev pub invariant-loop-column : goal.invariant-loop-column
-invariant-loop-column l = l.values.items ≡ map (value_at l.self.run.now l.seen.thread l.seen.span l.seen.parent) (take l.column-index l.columns)
