@@ -221,7 +221,9 @@ impl<'r, 'a> RunColumns<'r, 'a> {
             ≡ map (value_at self.now.run.now seen.now.thread seen.now.span seen.now.parent)
             self.now.schema.now.columns) }
     {
-        let mut key = Key::of(Vec::new(self.alloc));
+        let schema = self.schema;
+        let room = Vec::with_capacity(self.alloc, schema.columns.len())?;
+        let mut key = Key::of(room);
         self.put_key(&mut key, seen)?;
         Ok(key)
     }

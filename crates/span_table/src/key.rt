@@ -67,7 +67,7 @@ impl PartialEq for Key {
 
     ghost laws = { partial_equiv_from_equiv (eq_by_cmp_equiv key_cmp_total) };
 
-    // Texts of different lengths differ, which their order doesn't look at.
+    // Texts of different lengths differ at once, where their order looks at bytes.
     fn eq(&self, other: &Key) -> bool {
         are_same(&self.values, &other.values)
     }
